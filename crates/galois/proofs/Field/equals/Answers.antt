@@ -1,0 +1,14 @@
+use mathlib.Core.Path.{sym, _∙_}
+use Rattle.galois.proofs.Abstract.{equal, none-of}
+use Rattle.galois.proofs.Field.equals.Needs as need
+
+pub returns : need.returns
+returns g c =
+    let m = g .Self·Field·met in
+    let x = c .args .self in
+    let y = c .args .other in
+    let sum = m .sums x y (c .add .result) (c .add .ensures) in
+    record {
+      yes = λ t. equal (m .laws) x y (sym sum ∙ c .is-zero .ensures .yes t);
+      no = λ f e. c .is-zero .ensures .no f (sum ∙ none-of (m .laws) x y e);
+    }

@@ -1,0 +1,12 @@
+pub mod Ring
+pub mod Clauses
+pub mod Values
+pub mod Products
+pub mod Division
+pub mod Syndromes
+pub mod Factors
+pub mod Moments
+pub mod Distance
+pub mod Errors
+pub mod Places
+pub mod Mending
