@@ -1,3 +1,4 @@
 pub mod Field
 pub mod Binary
 pub mod Fields
+pub mod Roots

@@ -1,4 +1,5 @@
 // Finite fields of characteristic two: the trait that the code is written over, and the two fields that the library uses.
+mod cubic;
 mod gf16;
 mod gf256;
 
@@ -7,6 +8,8 @@ ghost use mathlib.Core.Path.{_≡_};
 ghost use Prim.Native.Nat.{_≤_};
 ghost use Rattle.std.specs.Options.{Cases as BySome};
 ghost use Rattle.galois.specs.Field.{Arithmetic, Inverse, Laws};
+ghost use Rattle.galois.specs.Roots.{Leaves};
+pub use cubic::Cubic;
 pub use gf16::Gf16;
 pub use gf16::Gf16Add;
 pub use gf16::Gf16Debug;
@@ -63,6 +66,10 @@ pub trait Field: Copy + Add<Self, Output = Self> + Mul<Self, Output = Self> {
     // Zero has no inverse, and is answered by zero.
     fn inverse(self) -> Self
         ensures { λ r. ⌜ Inverse field self r ⌝ };
+
+    // What is left of this element times X^4 after division by (X + 1)(X + alpha)(X + alpha^2)(X + alpha^3).
+    fn times_x4(self) -> Cubic<Self>
+        ensures { λ r. ⌜ Leaves field self r ⌝ };
 
     fn order() -> usize
         ensures { λ r. ⌜ r ≡ field .order ⌝ };

@@ -4,6 +4,7 @@ ghost use Prim.Native.Nat.{_<_};
 ghost use Rattle.galois.specs.Binary.{shifts};
 ghost use Rattle.galois.specs.Fields.{gf16, of-digit};
 use super::Gf16;
+use crate::Cubic;
 use crate::Field;
 use std::ops::Add;
 use std::ops::Mul;
@@ -91,6 +92,15 @@ pub impl Field for Gf16 as Gf16Field {
             return element(0);
         }
         element(power(15 - log(self.bits)))
+    }
+
+    fn times_x4(self) -> Cubic<Gf16> {
+        Cubic {
+            k3: self * element(15),
+            k2: self * element(3),
+            k1: self,
+            k0: self * element(12),
+        }
     }
 
     fn order() -> usize {

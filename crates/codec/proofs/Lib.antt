@@ -1,0 +1,5 @@
+pub mod Lists
+pub mod Dividing
+pub mod Changes
+pub mod Deciding
+pub mod Answering

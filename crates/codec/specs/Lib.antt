@@ -1,0 +1,3 @@
+pub mod Mend
+pub mod Check
+pub mod Steps
