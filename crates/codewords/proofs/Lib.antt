@@ -1,0 +1,4 @@
+pub mod Numbers
+pub mod Mends
+pub mod Making
+pub mod Telling

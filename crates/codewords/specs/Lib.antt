@@ -1,0 +1,4 @@
+pub mod Bytes
+pub mod Labels
+pub mod Verdicts
+pub mod Symbols
