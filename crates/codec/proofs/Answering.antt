@@ -57,7 +57,7 @@ two-places (suc (suc (suc c))) d a b x y hc hd ca cb dx dy e = absurd (omega ari
 pub same-places : (m n : MendRecord) → places m ≡ places n → m ≡ n
 same-places m n e =
     let t = two-places (m .count) (n .count) (m .first) (m .second) (n .first) (n .second) (m .agree .0) (n .agree .0)
-        (m .agree .1) (m .agree .2) (n .agree .1) (n .agree .2) e in
+    (m .agree .1) (m .agree .2) (n .agree .1) (n .agree .2) e in
     same-record m n (t .0) (t .1) (t .2)
 
 pub mended-one-way : {F : Type 0} → Mended-one-way F

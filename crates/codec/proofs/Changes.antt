@@ -15,8 +15,8 @@ use Rattle.codec.specs.Mend.{places}
 
 module _ {F : Type 0} (K : Arithmetic F) (laws : Laws K) where
   open Arithmetic K using (zero as 𝟘, plus as _⊕_)
-  infixl 60 _⊕_
 
+  infixl 60 _⊕_
   -- what one pair of symbols adds to the places that differ
   from-same : (o : ℕ) (x : F) (u v : List F) → differing-from (K .number) o (x ∷ u) (x ∷ v) ≡ differing-from (K .number) (suc o) u v
   unfolding differing-from

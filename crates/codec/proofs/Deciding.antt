@@ -25,9 +25,9 @@ use Rattle.codec.proofs.Changes.{differing-none, differing-one, differing-two}
 
 module _ {F : Type 0} (K : Arithmetic F) (laws : Laws K) (w : List F) (long : 5 ≤ length w) (short : length w ≤ K .order) where
   open Arithmetic K using (zero as 𝟘, one as 𝟙, plus as _+_, times as _*_, alpha as α)
+
   infixl 60 _+_
   infixl 70 _*_
-
   -- the place of an exponent
   pub located : (e : ℕ) → e < length w → locator K (length w) (length w - 1 - e) ≡ power K α e
   unfolding locator
@@ -44,7 +44,8 @@ module _ {F : Type 0} (K : Arithmetic F) (laws : Laws K) (w : List F) (long : 5 
   pub near-one : (i : ℕ) → i < length w → ¬ (syndrome K w 0 ≡ 𝟘) →
       ((k : ℕ) → k < 3 → syndrome K w k * locator K (length w) i ≡ syndrome K w (suc k)) → Within-two K w (altered K w i (syndrome K w 0))
   near-one i h nz steps = record {
-    long = long; short = short;
+    long = long;
+    short = short;
     coded = mends-one K laws (length w) long short w refl i h steps;
     close = omega (arith, ap length (differing-one K laws w i (syndrome K w 0) h nz));
   }
@@ -65,7 +66,8 @@ module _ {F : Type 0} (K : Arithmetic F) (laws : Laws K) (w : List F) (long : 5 
 
     pub near-two : Within-two K w (altered K (altered K w i a) j b)
     near-two = record {
-      long = long; short = short;
+      long = long;
+      short = short;
       coded = mends-two K laws (length w) long short w refl i j (omega arith) h a b regular qi qj first second;
       close = omega (arith, ap length (differing-two K laws w i j a b ij h first-nonzero second-nonzero));
     }
@@ -150,6 +152,7 @@ module _ {F : Type 0} (K : Arithmetic F) (laws : Laws K) (w : List F) (long : 5 
     where
       x : F
       x = power K α (s .exponent)
+
       s₀ : F
       s₀ = syndrome K w 0
 
@@ -181,9 +184,10 @@ module _ {F : Type 0} (K : Arithmetic F) (laws : Laws K) (w : List F) (long : 5 
         t .constant ≡ s .s1 * s .s3 + s .s2 * s .s2 → (x : F) → trinomial-at K t x ≡ quadratic K w x
     told-quadratic t ea eb ec x =
         (λ i. trinomial-at K (record {
-            square = told-determinant (t .square) ea i;
-            linear = (eb ∙ ap (λ u. u .s0 * u .s3 + u .s1 * u .s2) told) i;
-            constant = (ec ∙ ap (λ u. u .s1 * u .s3 + u .s2 * u .s2) told) i }) x)
+          square = told-determinant (t .square) ea i;
+          linear = (eb ∙ ap (λ u. u .s0 * u .s3 + u .s1 * u .s2) told) i;
+          constant = (ec ∙ ap (λ u. u .s1 * u .s3 + u .s2 * u .s2) told) i;
+        }) x)
         ∙ sym (quadratic-clause K laws w x)
 
     -- the line that the program makes
@@ -210,7 +214,8 @@ module _ {F : Type 0} (K : Arithmetic F) (laws : Laws K) (w : List F) (long : 5 
           let is : x ≡ power K α (o .exponent) = single-is o x (ap (λ t. trinomial-at K t x) (sym (line-is z e)) ∙ root) in
           wrong (
             (λ i. told i .s1 * is i) ∙ single-steps o 1 (omega arith) ∙ ap (λ u. u .s2) (sym told),
-            (λ i. told i .s2 * is i) ∙ single-steps o 2 (omega arith) ∙ ap (λ u. u .s3) (sym told))
+            (λ i. told i .s2 * is i) ∙ single-steps o 2 (omega arith) ∙ ap (λ u. u .s3) (sym told),
+          )
 
     pub one-right : (z x : F) (e : ℕ) → z ≡ 𝟘 → ¬ (s .s0 ≡ 𝟘) → trinomial-at K (record { square = z; linear = s .s0; constant = s .s1 }) x ≡ 𝟘 →
         s .s1 * x ≡ s .s2 → s .s2 * x ≡ s .s3 → e < length w → x ≡ power K α e → Within-two K w (altered K w (length w - 1 - e) (s .s0))
@@ -220,17 +225,22 @@ module _ {F : Type 0} (K : Arithmetic F) (laws : Laws K) (w : List F) (long : 5 
       where
         at : x ≡ locator K (length w) (length w - 1 - e)
         at = is ∙ sym (located e below)
+
         first : s .s0 * x ≡ s .s1
         first = plus-cancel K laws _ _ (sym (rw ez (simp ring)) ∙ root)
+
         three : (P : ℕ → Type 0) → P 0 → P 1 → P 2 → (k : ℕ) → k < 3 → P k
         three P p₀ p₁ p₂ zero h = p₀
         three P p₀ p₁ p₂ (suc zero) h = p₁
         three P p₀ p₁ p₂ (suc (suc zero)) h = p₂
         three P p₀ p₁ p₂ (suc (suc (suc k))) h = absurd (omega arith)
+
         Steps : Syndromes F → F → Type 0
         Steps u y = (u .s0 * y ≡ u .s1) × (u .s1 * y ≡ u .s2) × (u .s2 * y ≡ u .s3)
+
         all : Steps (syndromes K w) (locator K (length w) (length w - 1 - e))
         all = subst (λ y. Steps (syndromes K w) y) at (subst (λ u. Steps u x) told (first, second, third))
+
         steps : (k : ℕ) → k < 3 → syndrome K w k * locator K (length w) (length w - 1 - e) ≡ syndrome K w (suc k)
         steps = three _ (all .0) (all .1) (all .2)
 
@@ -243,23 +253,29 @@ module _ {F : Type 0} (K : Arithmetic F) (laws : Laws K) (w : List F) (long : 5 
       two-second g before after v near =
           let d = is-double regular v near in
           elim (decLt (d .low) g) [
-            yes h ↦ before (d .low) (omega arith) h (shape _ ∙ d .low-root)
-          | no h ↦ after (d .high) (omega (arith, d .order)) (d .below) (shape _ ∙ d .high-root) ]
+            | yes h ↦ before (d .low) (omega arith) h (shape _ ∙ d .low-root)
+            | no h ↦ after (d .high) (omega (arith, d .order)) (d .below) (shape _ ∙ d .high-root)
+          ]
 
       -- the two altered places: the later one has the smaller exponent
       module _ (e f : ℕ) (x y p q : F) (ef : e < f) (below : f < length w) (at-x : x ≡ power K α f) (at-y : y ≡ power K α e)
           (root-x : trinomial-at K t x ≡ 𝟘) (root-y : trinomial-at K t y ≡ 𝟘) (first : p * (x + y) ≡ s .s0 * y + s .s1) (second : q ≡ s .s0 + p) where
         loc-x : locator K (length w) (length w - 1 - f) ≡ x
         loc-x = located f below ∙ sym at-x
+
         loc-y : locator K (length w) (length w - 1 - e) ≡ y
         loc-y = located e (omega arith) ∙ sym at-y
+
         zero-x : quadratic K w (locator K (length w) (length w - 1 - f)) ≡ 𝟘
         zero-x = ap (quadratic K w) loc-x ∙ sym (shape x) ∙ root-x
+
         zero-y : quadratic K w (locator K (length w) (length w - 1 - e)) ≡ 𝟘
         zero-y = ap (quadratic K w) loc-y ∙ sym (shape y) ∙ root-y
+
         first-at : p * (locator K (length w) (length w - 1 - f) + locator K (length w) (length w - 1 - e))
             ≡ syndrome K w 0 * locator K (length w) (length w - 1 - e) + syndrome K w 1
         first-at = (λ i. p * (loc-x i + loc-y i)) ∙ first ∙ (λ i. told i .s0 * sym loc-y i + told i .s1)
+
         second-at : q ≡ syndrome K w 0 + p
         second-at = second ∙ ap (λ u. u .s0 + p) told
 
@@ -267,5 +283,7 @@ module _ {F : Type 0} (K : Arithmetic F) (laws : Laws K) (w : List F) (long : 5 
         two-right = near-two _ _ (omega arith) (omega arith) p q regular zero-x zero-y first-at second-at
 
         pub two-nonzero : (¬ (p ≡ 𝟘)) × (¬ (q ≡ 𝟘))
-        two-nonzero = (first-nonzero (length w - 1 - f) (length w - 1 - e) (omega arith) (omega arith) p q regular zero-x zero-y first-at second-at,
-          second-nonzero (length w - 1 - f) (length w - 1 - e) (omega arith) (omega arith) p q regular zero-x zero-y first-at second-at)
+        two-nonzero = (
+          first-nonzero (length w - 1 - f) (length w - 1 - e) (omega arith) (omega arith) p q regular zero-x zero-y first-at second-at,
+          second-nonzero (length w - 1 - f) (length w - 1 - e) (omega arith) (omega arith) p q regular zero-x zero-y first-at second-at,
+        )

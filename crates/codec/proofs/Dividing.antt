@@ -22,9 +22,9 @@ use mathlib.Core.Logic.{inl, inr}
 
 module _ {F : Type 0} (K : Arithmetic F) (laws : Laws K) where
   open Arithmetic K using (zero as 𝟘, one as 𝟙, plus as _+_, times as _*_, alpha as α)
+
   infixl 60 _+_
   infixl 70 _*_
-
   -- one symbol more at the end of a word
   pub syndrome-push : (w : List F) (c : F) (k : ℕ) → syndrome K (w ++ (c ∷ [])) k ≡ c + power K α k * syndrome K w k
   unfolding syndrome
@@ -89,8 +89,9 @@ module _ {F : Type 0} (K : Arithmetic F) (laws : Laws K) where
   distance-after [] u v = refl
   distance-after (x ∷ w) u v =
       elim (differ-cases K laws x x) [
-        inl e ↦ omega (arith, e .1, distance-cons K laws x x (w ++ u) (w ++ v), distance-after w u v)
-      | inr e ↦ absurd (e .0 refl) ]
+        | inl e ↦ omega (arith, e .1, distance-cons K laws x x (w ++ u) (w ++ v), distance-after w u v)
+        | inr e ↦ absurd (e .0 refl)
+      ]
 
   differ-most : (a b : F) → differ K laws a b ≤ 1
   differ-most a b = elim (differ-cases K laws a b) [ inl e ↦ omega (arith, e .1) | inr e ↦ omega (arith, e .1) ]
@@ -110,13 +111,16 @@ module _ {F : Type 0} (K : Arithmetic F) (laws : Laws K) where
     where
       n : ℕ
       n = N._+_ (length w) 4
+
       long : 5 ≤ n
       long = omega (arith, size .some)
+
       is : Coded K n (w ++ symbols r)
       is = coded-by-syndromes K laws n long (size .fits) (w ++ symbols r) (length-append w (symbols r)) .1 (zero-syndromes w r remains)
+
       alone : (s : List F) → Coded K n (w ++ s) → s ≡ symbols r
       alone s coded =
           let four : length s ≡ 4 = omega (arith, length-append w s, coded .size) in
           after-same w s (symbols r) (same-syndromes K laws n long (w ++ s) (w ++ symbols r) (coded .size) (is .size) (size .fits)
-            (omega (arith, distance-after w s (symbols r), distance-most s (symbols r) four))
-            (λ k h. coded-by-syndromes K laws n long (size .fits) (w ++ s) (coded .size) .0 coded k h ∙ sym (zero-syndromes w r remains k h)))
+          (omega (arith, distance-after w s (symbols r), distance-most s (symbols r) four))
+          (λ k h. coded-by-syndromes K laws n long (size .fits) (w ++ s) (coded .size) .0 coded k h ∙ sym (zero-syndromes w r remains k h)))

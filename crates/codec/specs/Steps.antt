@@ -17,9 +17,9 @@ use Rattle.codec.specs.declared.roots.Locator.{Locator}
 
 module _ {F : Type 0} (K : Arithmetic F) where
   open Arithmetic K using (zero as 𝟘, plus as _+_, times as _*_, alpha as α)
+
   infixl 60 _+_
   infixl 70 _*_
-
   -- the values of the word at the four roots of the generator
   abbrev pub syndromes : List F → Syndromes F
   syndromes w = record { s0 = syndrome K w 0; s1 = syndrome K w 1; s2 = syndrome K w 2; s3 = syndrome K w 3 }

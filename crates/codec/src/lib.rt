@@ -1,4 +1,4 @@
-// Check symbols, syndromes and mending for the Reed-Solomon code with four check symbols, in one text for every field.
+//! Check symbols, syndromes and mending for the Reed-Solomon code with four check symbols, in one text for every field.
 mod checks;
 mod mender;
 mod record;

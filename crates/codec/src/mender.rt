@@ -1,4 +1,4 @@
-// Mending: from the syndromes to the places and values of at most two errors.
+//! Mending: from the syndromes to the places and values of at most two errors.
 ghost use mathlib.Core.Bool.{true, false};
 ghost use mathlib.Core.Path.{_≡_};
 ghost use Prim.Native.Nat.{_<_, _≤_};
@@ -100,8 +100,8 @@ fn mend_two<F: Field>(word: &mut [F], s: Syndromes<F>, t: Trinomial<F>) -> Optio
     Some(MendRecord::two(place as u8, second as u8))
 }
 
-// Leaves in `word` the coded word that differs from it in at most two symbols, and answers at which places; `None`, and the word as
-// it was, where there is none.
+/// Leaves in `word` the coded word that differs from it in at most two symbols, and answers at which places; `None`, and the word as
+/// it was, where there is none.
 pub fn mend<F: Field>(word: &mut [F]) -> Option<MendRecord>
     ensures { λ r. ⌜ Mended field (now (word .entry)) (now (word .exit)) r ⌝ }
 {
@@ -121,7 +121,7 @@ pub fn mend<F: Field>(word: &mut [F]) -> Option<MendRecord>
     }
 }
 
-// What mending leaves and answers is fixed by the word alone.
+/// What mending leaves and answers is fixed by the word alone.
 pub fn mended_one_way<T>() -> u8
     ensures { λ _. ⌜ Mended-one-way T ⌝ }
 {

@@ -1,8 +1,8 @@
-// What mending altered: how many symbols, and at which places.
+//! What mending altered: how many symbols, and at which places.
 ghost use mathlib.Core.Path.{_≡_};
 ghost use Prim.Native.Nat.{_<_, _≤_};
 
-// The places rise, and one that is not used is 255, which is no place of a word. No record exists whose count and places disagree.
+/// The places rise, and one that is not used is 255, which is no place of a word. No record exists whose count and places disagree.
 #[derive(Clone, Copy, PartialEq, Eq, Debug)]
 pub struct MendRecord {
     count: u8,
@@ -50,14 +50,14 @@ impl MendRecord {
         self.count
     }
 
-    // The first place, or 255.
+    /// The first place, or 255.
     pub fn first(&self) -> u8
         ensures { λ r. ⌜ r ≡ now (self .entry) .first ⌝ }
     {
         self.first
     }
 
-    // The second place, or 255.
+    /// The second place, or 255.
     pub fn second(&self) -> u8
         ensures { λ r. ⌜ r ≡ now (self .entry) .second ⌝ }
     {

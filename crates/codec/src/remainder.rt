@@ -1,4 +1,4 @@
-// Division by the generator: the one pass over a word that coding and mending are made of.
+//! Division by the generator: the one pass over a word that coding and mending are made of.
 ghost use Rattle.codec.specs.Steps.{Remains};
 ghost use mathlib.Core.List.{[], _∷_, _++_};
 ghost use mathlib.Core.Path.{_≡_};

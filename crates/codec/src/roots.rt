@@ -1,4 +1,4 @@
-// The search for a root among the powers of alpha.
+//! The search for a root among the powers of alpha.
 ghost use mathlib.Core.Bool.{true, false};
 ghost use mathlib.Core.Path.{_≡_};
 ghost use Prim.Native.Nat.{_+_, _<_, _≤_};
@@ -6,7 +6,7 @@ ghost use Rattle.codec.specs.Steps.{First-root, Is-power, No-root, Terms, trin
 ghost use Rattle.std.specs.Options.{Cases as BySome};
 use galois::Field;
 
-// square X^2 + linear X + constant
+/// square X^2 + linear X + constant
 #[derive(Clone, Copy)]
 pub struct Trinomial<F> {
     pub square: F,
@@ -45,7 +45,7 @@ impl<F: Field> Trinomial<F> {
     }
 }
 
-// A power of alpha, which stands for the place whose symbol is the coefficient of X to that exponent.
+/// A power of alpha, which stands for the place whose symbol is the coefficient of X to that exponent.
 #[derive(Clone, Copy)]
 pub struct Locator<F> {
     pub exponent: usize,
@@ -81,7 +81,11 @@ impl<F: Field> Locator<F> {
 
 // The first root among the powers of alpha from `start` to below the `n`-th. Each term is carried from power to power, so a step
 // multiplies by alpha alone.
-pub(crate) fn find_root<F: Field>(t: Trinomial<F>, start: Locator<F>, n: usize) -> Option<Locator<F>>
+pub(crate) fn find_root<F: Field>(
+    t: Trinomial<F>,
+    start: Locator<F>,
+    n: usize,
+) -> Option<Locator<F>>
     requires is { ⌜ Is-power field start ⌝ }
     requires short { ⌜ n ≤ 255 ⌝ }
     ensures { λ r. ⌜ BySome r (No-root field t (start .exponent) n) (λ x. First-root field t (start .exponent) n x) ⌝ }

@@ -1,4 +1,4 @@
-// The values of a word at the four roots of the generator.
+//! The values of a word at the four roots of the generator.
 ghost use mathlib.Core.Bool.{true, false};
 ghost use mathlib.Core.Path.{_≡_};
 ghost use Rattle.codec.specs.Steps.{All-zero, syndromes};

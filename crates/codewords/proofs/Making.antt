@@ -46,14 +46,19 @@ label-made digits before after w c ld lb e checks is = record {
   where
     eleven : length w ≡ 11
     eleven = sym (length-map w (gf16 .number)) ∙ ap length e ∙ ld
+
     fifteen : length w + 4 ≡ 15
     fifteen = omega (arith, eleven)
+
     spelt : after ≡ map (gf16 .number) (w ++ symbols c)
     spelt = is ∙ ap (λ d. d ++ map (gf16 .number) (symbols c)) (sym e) ∙ sym (map-append (gf16 .number) w (symbols c))
+
     begins : take 11 after ≡ digits
     begins = ap (take 11) is ∙ take-at digits (map (gf16 .number) (symbols c)) 11 ld
+
     whole : Coded gf16 15 (w ++ symbols c)
     whole = subst (λ n. Coded gf16 n (w ++ symbols c)) fifteen (checks .coded)
+
     only : (v : List ℕ) → Label-of digits v → v ≡ after
     only v label =
         let u = label .coded .word in

@@ -35,10 +35,12 @@ module _ {F : Type 0} (K : Arithmetic F) where
   first-once : (b : List ℕ) (i j : ℕ) → First-wide K b i → First-wide K b j → i ≡ j
   first-once b i j p q =
       elim (decLt i j) [
-        yes h ↦ omega (arith, q .first i h, p .wide)
-      | no nh ↦ elim (decLt j i) [
-          yes h ↦ omega (arith, p .first j h, q .wide)
-        | no mh ↦ omega arith ] ]
+        | yes h ↦ omega (arith, q .first i h, p .wide)
+        | no nh ↦ elim (decLt j i) [
+          | yes h ↦ omega (arith, p .first j h, q .wide)
+          | no mh ↦ omega arith
+        ]
+      ]
 
   pub refused-length : (n : ℕ) (b : List ℕ) → ¬ (length b ≡ n) → Mended-bytes K n b b (Err (denied Length Code (length b) 0))
   refused-length n b ne = record {
@@ -63,10 +65,12 @@ module _ {F : Type 0} (K : Arithmetic F) where
   wide-below b zero h = inr (λ j l. absurd (omega arith))
   wide-below b (suc k) h =
       elim (wide-below b k (omega arith)) [
-        inl found ↦ inl found
-      | inr before ↦ elim (decLt (getD b k 0) (K .size)) [
-          yes below ↦ inr (below-more′ k before below)
-        | no wide ↦ inl (k, record { inside = omega arith; wide = omega arith; first = before }) ] ]
+        | inl found ↦ inl found
+        | inr before ↦ elim (decLt (getD b k 0) (K .size)) [
+          | yes below ↦ inr (below-more′ k before below)
+          | no wide ↦ inl (k, record { inside = omega arith; wide = omega arith; first = before })
+        ]
+      ]
     where
       below-more′ : (k : ℕ) → ((j : ℕ) → j < k → getD b j 0 < K .size) → getD b k 0 < K .size → (j : ℕ) → j < suc k → getD b j 0 < K .size
       below-more′ k before here j l =
@@ -111,9 +115,10 @@ module _ {F : Type 0} (K : Arithmetic F) where
             let u = near .coded .word in
             let r = mended .mends u (of-bytes v near) in
             let o = r .1 in
-            let same : m ≡ o .0 = some-same m (o .0) (o .1) in
-            (ap numbers (r .0) ∙ near .coded .numbers,
-            (m, refl, ap places same ∙ o .2 ∙ sym (differing-numbers (K .number) 0 u w) ∙ ap (λ x. differing-bytes x (numbers w)) (near .coded .numbers)));
+            let same : m ≡ o .0 = some-same m (o .0) (o .1) in (
+              ap numbers (r .0) ∙ near .coded .numbers,
+              (m, refl, ap places same ∙ o .2 ∙ sym (differing-numbers (K .number) 0 u w) ∙ ap (λ x. differing-bytes x (numbers w)) (near .coded .numbers)),
+            );
         sound = λ _ _. (all-numbers, to-bytes w′ (mended .sound m refl));
       }
         where
@@ -145,7 +150,9 @@ by-answer K n b u v (Err d) s p q e all =
 pub mended-bytes-one-way : {F : Type 0} → Mended-bytes-one-way F
 mended-bytes-one-way K n b u v r s p q =
     elim (ℕ-discrete (length b) n) [
-      no ne ↦ (p .wrong-length ne .0 ∙ sym (q .wrong-length ne .0), p .wrong-length ne .1 ∙ sym (q .wrong-length ne .1))
-    | yes e ↦ elim (some-wide K b) [
-        inl f ↦ (p .too-wide e (f .0) (f .1) .0 ∙ sym (q .too-wide e (f .0) (f .1) .0), p .too-wide e (f .0) (f .1) .1 ∙ sym (q .too-wide e (f .0) (f .1) .1))
-      | inr all ↦ by-answer K n b u v r s p q e all ] ]
+      | no ne ↦ (p .wrong-length ne .0 ∙ sym (q .wrong-length ne .0), p .wrong-length ne .1 ∙ sym (q .wrong-length ne .1))
+      | yes e ↦ elim (some-wide K b) [
+        | inl f ↦ (p .too-wide e (f .0) (f .1) .0 ∙ sym (q .too-wide e (f .0) (f .1) .0), p .too-wide e (f .0) (f .1) .1 ∙ sym (q .too-wide e (f .0) (f .1) .1))
+        | inr all ↦ by-answer K n b u v r s p q e all
+      ]
+    ]

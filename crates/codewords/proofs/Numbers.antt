@@ -51,5 +51,5 @@ module _ {F : Type 0} (K : Arithmetic F) (laws : Laws K) where
   front-below word bytes i h e k below =
       let inside : k < length (take i word) = omega (arith, length-take-le i word h) in
       let is : K .number (getD (take i word) k (K .zero)) ≡ getD bytes k 0 =
-          sym (getD-map (K .number) (take i word) k (K .zero) 0 inside) ∙ ap (λ l. getD l k 0) e ∙ getD-take i bytes k 0 below in
+      sym (getD-map (K .number) (take i word) k (K .zero) 0 inside) ∙ ap (λ l. getD l k 0) e ∙ getD-take i bytes k 0 below in
       subst (λ b. b < K .size) is (laws .number-below (getD (take i word) k (K .zero)))

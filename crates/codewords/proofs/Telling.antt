@@ -58,9 +58,12 @@ is-lost (Short n) = no (λ e. let z : _≡_ {A = ℕ} 0 1 = cc in omega arith)
 pub judged-one-way : Judged-one-way
 judged-one-way b r s p q =
     elim (ℕ-discrete (length b) 224) [
-      no ne ↦ p .short ne ∙ sym (q .short ne)
-    | yes e ↦ elim (is-lost r) [
-        no nr ↦ let v = p .sound e nr in p .mended (v .0) (v .1) ∙ sym (q .mended (v .0) (v .1))
-      | yes lr ↦ elim (is-lost s) [
-          no ns ↦ let v = q .sound e ns in p .mended (v .0) (v .1) ∙ sym (q .mended (v .0) (v .1))
-        | yes ls ↦ lr ∙ sym ls ] ] ]
+      | no ne ↦ p .short ne ∙ sym (q .short ne)
+      | yes e ↦ elim (is-lost r) [
+        | no nr ↦ let v = p .sound e nr in p .mended (v .0) (v .1) ∙ sym (q .mended (v .0) (v .1))
+        | yes lr ↦ elim (is-lost s) [
+          | no ns ↦ let v = q .sound e ns in p .mended (v .0) (v .1) ∙ sym (q .mended (v .0) (v .1))
+          | yes ls ↦ lr ∙ sym ls
+        ]
+      ]
+    ]

@@ -1,4 +1,4 @@
-// Coded blocks: 224 bytes over the field of 256 elements.
+//! Coded blocks: 224 bytes over the field of 256 elements.
 ghost use Rattle.codewords.specs.Bytes.{Mended-bytes};
 ghost use Rattle.galois.specs.Fields.{gf256};
 use crate::symbols::mend_bytes;

@@ -1,4 +1,4 @@
-// Cassette labels: 15 digits over the field of 16 elements, a byte each.
+//! Cassette labels: 15 digits over the field of 16 elements, a byte each.
 ghost use mathlib.Core.List.{[], _∷_, _++_};
 ghost use mathlib.Core.Path.{_≡_};
 ghost use Prim.Native.Nat.{_+_, _≤_};
@@ -20,6 +20,7 @@ use galois::Gf16Field;
 
 // How many digits a label has, and how many of them are data.
 const LABEL: usize = 15;
+
 const DATA: usize = 11;
 
 /// Mends a label in its own digits, and answers which were altered. Refused, not a digit is written: `length` for another length,

@@ -1,4 +1,4 @@
-// Bytes as the symbols of a field.
+//! Bytes as the symbols of a field.
 ghost use mathlib.Core.List.{map};
 ghost use mathlib.Core.Path.{_≡_};
 ghost use Prim.Native.Nat.{_≤_};

@@ -1,4 +1,4 @@
-// Verdicts on blocks, and their lines.
+//! Verdicts on blocks, and their lines.
 ghost use mathlib.Core.Path.{_≡_};
 ghost use Rattle.codewords.specs.Verdicts.{Judged, Judged-one-way, Tells, verdict-text, by-places};
 ghost use Rattle.codec.specs.Mend.{places};

@@ -6,9 +6,9 @@ use Rattle.galois.specs.declared.cubic.Cubic.{Cubic}
 
 module _ {F : Type 0} (K : Arithmetic F) where
   open Arithmetic K using (plus as _+_, times as _*_, alpha as α)
+
   infixl 60 _+_
   infixl 70 _*_
-
   -- the value of k3 X³ + k2 X² + k1 X + k0 at x
   abbrev pub cubic-at : Cubic F → F → F
   cubic-at r x = r .k0 + x * (r .k1 + x * (r .k2 + x * r .k3))

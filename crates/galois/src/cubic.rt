@@ -1,4 +1,4 @@
-// Polynomials of degree at most three.
+//! Polynomials of degree at most three.
 #[derive(Clone, Copy, PartialEq, Eq, Debug)]
 pub struct Cubic<F> {
     pub k3: F,

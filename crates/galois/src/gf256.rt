@@ -1,4 +1,4 @@
-// An element of the field of 256 elements, by its number.
+//! An element of the field of 256 elements, by its number.
 ghost use Prim.Native.Nat.{_<_};
 
 mod arithmetic;

@@ -1,4 +1,4 @@
-// Finite fields of characteristic two: the trait that the code is written over, and the two fields that the library uses.
+//! Finite fields of characteristic two: the trait that the code is written over, and the two fields that the library uses.
 mod cubic;
 mod gf16;
 mod gf256;
@@ -25,7 +25,7 @@ pub use gf256::Gf256PartialEq;
 use std::ops::Add;
 use std::ops::Mul;
 
-// A field says by `field` what its operations are, and shows by `laws` that they are those of a field.
+/// A field says by `field` what its operations are, and shows by `laws` that they are those of a field.
 pub trait Field: Copy + Add<Self, Output = Self> + Mul<Self, Output = Self> {
     ghost field: { Arithmetic Self };
 
@@ -63,18 +63,18 @@ pub trait Field: Copy + Add<Self, Output = Self> + Mul<Self, Output = Self> {
     fn times_alpha(self) -> Self
         ensures { λ r. ⌜ r ≡ field .times (field .alpha) self ⌝ };
 
-    // Zero has no inverse, and is answered by zero.
+    /// Zero has no inverse, and is answered by zero.
     fn inverse(self) -> Self
         ensures { λ r. ⌜ Inverse field self r ⌝ };
 
-    // What is left of this element times X^4 after division by (X + 1)(X + alpha)(X + alpha^2)(X + alpha^3).
+    /// What is left of this element times X^4 after division by (X + 1)(X + alpha)(X + alpha^2)(X + alpha^3).
     fn times_x4(self) -> Cubic<Self>
         ensures { λ r. ⌜ Leaves field self r ⌝ };
 
     fn order() -> usize
         ensures { λ r. ⌜ r ≡ field .order ⌝ };
 
-    // The element of that number; none where the field has fewer.
+    /// The element of that number; none where the field has fewer.
     fn from_number(number: u8) -> Option<Self>
         ensures { λ r. ⌜ BySome r (field .size ≤ number) (λ x. field .number x ≡ number) ⌝ };
 

@@ -11,9 +11,9 @@ length-cons a w = refl
 
 module _ {F : Type 0} (K : Arithmetic F) where
   open Arithmetic K using (zero as 𝟘, one as 𝟙, plus as _+_, times as _*_)
+
   infixl 60 _+_
   infixl 70 _*_
-
   pub power-zero : (x : F) → power K x 0 ≡ 𝟙
   unfolding power
   power-zero x = refl
@@ -64,8 +64,8 @@ module _ {F : Type 0} (K : Arithmetic F) where
 
 module _ {F : Type 0} (K : Arithmetic F) (laws : Laws K) where
   open Arithmetic K using (one as 𝟙, times as _*_)
-  infixl 70 _*_
 
+  infixl 70 _*_
   -- the powers that the code uses, as products
   pub power-1 : (x : F) → power K x 1 ≡ x
   unfolding power

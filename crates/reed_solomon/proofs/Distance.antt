@@ -16,12 +16,15 @@ module _ {F : Type 0} (K : Arithmetic F) (laws : Laws K) where
   differ-triangle : (a b c : F) → differ K laws a b ≤ differ K laws a c + differ K laws b c
   differ-triangle a b c =
       elim (differ-cases K laws a b) [
-        inl d ↦ omega arith
-      | inr d ↦ elim (differ-cases K laws a c) [
-          inr e ↦ omega arith
-        | inl e ↦ elim (differ-cases K laws b c) [
-            inr f ↦ omega arith
-          | inl f ↦ absurd (d .0 (e .0 ∙ sym (f .0))) ] ] ]
+        | inl d ↦ omega arith
+        | inr d ↦ elim (differ-cases K laws a c) [
+          | inr e ↦ omega arith
+          | inl e ↦ elim (differ-cases K laws b c) [
+            | inr f ↦ omega arith
+            | inl f ↦ absurd (d .0 (e .0 ∙ sym (f .0)))
+          ]
+        ]
+      ]
 
   triangle : (u v w : List F) → length u ≡ length w → length v ≡ length w → distance (K .number) u v ≤ distance (K .number) u w + distance (K .number) v w
   triangle [] [] [] hu hv = omega (arith, nil-distance K laws)

@@ -13,9 +13,9 @@ use Rattle.reed_solomon.proofs.Values.{value-product, value-linear}
 
 module _ {F : Type 0} (K : Arithmetic F) (laws : Laws K) where
   open Arithmetic K using (zero as 𝟘, one as 𝟙, plus as _+_, times as _*_)
+
   infixl 60 _+_
   infixl 70 _*_
-
   -- synthetic division: the quotient of a ∷ p by X + r, for any a
   quotient-by : F → List F → List F
   quotient-by r [] = []
@@ -52,10 +52,13 @@ module _ {F : Type 0} (K : Arithmetic F) (laws : Laws K) where
     where
       q : List F
       q = quotient-by r (b ∷ p)
+
       first : r * value K (b ∷ p) r ≡ a
       first = sym (plus-cancel K laws a _ (sym (value-cons K a (b ∷ p) r) ∙ root))
+
       exact : product K q (linear K r) ≡ a ∷ b ∷ p
       exact = quotient-product r b p ∙ ap (λ x. x ∷ b ∷ p) first
+
       rest : (x : F) → ¬ (x ≡ r) → value K (a ∷ b ∷ p) x ≡ 𝟘 → value K q x ≡ 𝟘
       rest x ne zero-at =
           times-both K laws _ 𝟘 (x + r) (λ e. ne (plus-cancel K laws x r e))

@@ -30,9 +30,9 @@ pub record Two-errors {F : Type 0} (K : Arithmetic F) (w : List F) (x y a b : F)
 
 module _ {F : Type 0} (K : Arithmetic F) (laws : Laws K) where
   open Arithmetic K using (zero as 𝟘, one as 𝟙, plus as _+_, times as _*_, alpha as α)
+
   infixl 60 _+_
   infixl 70 _*_
-
   pub length-altered : (w : List F) (i : ℕ) (e : F) → length (altered K w i e) ≡ length w
   unfolding altered
   length-altered w i e = length-set w i _
@@ -119,11 +119,14 @@ module _ {F : Type 0} (K : Arithmetic F) (laws : Laws K) where
         where
           only : quadratic K w z ≡ 𝟘 → (z ≡ x) ⊎ (z ≡ y)
           only e = elim (same K laws z x) [
-              yes is ↦ inl is
+            | yes is ↦ inl is
             | no nx ↦ elim (same K laws z y) [
-                yes is ↦ inr is
+              | yes is ↦ inr is
               | no ny ↦ absurd (times-nonzero K laws _ _ regular (times-nonzero K laws _ _ (λ h. nx (plus-cancel K laws z x h)) (λ h. ny (plus-cancel K laws z y h)))
-                  (sym (quadratic-is z) ∙ e)) ] ]
+                  (sym (quadratic-is z) ∙ e))
+            ]
+          ]
+
           are : (z ≡ x) ⊎ (z ≡ y) → quadratic K w z ≡ 𝟘
           are (inl is) = quadratic-is z ∙ rw is (simp ring)
           are (inr is) = quadratic-is z ∙ rw is (simp ring)
@@ -144,10 +147,12 @@ finds-two K laws n five short c coded i j hi hj nij a b na nb =
       regular = regular K laws _ _ _ a b sums na nb far;
       roots = roots K laws _ _ _ a b sums na nb far;
       first = first-value K laws _ _ _ a b sums;
-      second = second-value K laws _ _ _ a b sums }
+      second = second-value K laws _ _ _ a b sums;
+    }
   where
     far : ¬ (locator K n i ≡ locator K n j)
     far e = nij (locator-injective K laws n i j short hi hj e)
+
     sums : (k : ℕ) → k < 4 → syndrome K (altered K (altered K c i a) j b) k
         ≡ K .plus (K .times a (power K (locator K n i) k)) (K .times b (power K (locator K n j) k))
     sums k small =

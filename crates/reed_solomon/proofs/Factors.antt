@@ -25,19 +25,23 @@ module _ {F : Type 0} (K : Arithmetic F) (laws : Laws K) (n : ℕ) (five : 5 ≤
 
   factored : (p : List F) → length p ≡ n → ((k : ℕ) → k < 4 → value K p (power K α k) ≡ 𝟘) → (q : List F) × (product K q (generator K) ≡ p)
   unfolding generator
-  factored p size roots =
-      (d₀ .quotient,
-      step 3 (d₀ .quotient) _ (nonempty-product K laws _ _ (nonempty-product K laws _ _ (nonempty-linear K laws _) (nonempty-linear K laws _)) (nonempty-linear K laws _))
-      (step 2 (d₀ .quotient) _ (nonempty-product K laws _ _ (nonempty-linear K laws _) (nonempty-linear K laws _))
-      (step 1 (d₀ .quotient) _ (nonempty-linear K laws _) (d₀ .divides) (d₁ .divides)) (d₂ .divides)) (d₃ .divides))
+  factored p size roots = (
+    d₀ .quotient,
+    step 3 (d₀ .quotient) _ (nonempty-product K laws _ _ (nonempty-product K laws _ _ (nonempty-linear K laws _) (nonempty-linear K laws _)) (nonempty-linear K laws _))
+        (step 2 (d₀ .quotient) _ (nonempty-product K laws _ _ (nonempty-linear K laws _) (nonempty-linear K laws _))
+        (step 1 (d₀ .quotient) _ (nonempty-linear K laws _) (d₀ .divides) (d₁ .divides)) (d₂ .divides)) (d₃ .divides),
+  )
     where
       d₃ : Divided K laws p (power K α 3)
       d₃ = divided K laws p (power K α 3) (omega arith) (roots 3 (omega arith))
+
       d₂ : Divided K laws (d₃ .quotient) (power K α 2)
       d₂ = divided K laws (d₃ .quotient) (power K α 2) (omega (arith, d₃ .shorter)) (d₃ .roots _ (other 2 3 (omega arith) (omega arith)) (roots 2 (omega arith)))
+
       d₁ : Divided K laws (d₂ .quotient) (power K α 1)
       d₁ = divided K laws (d₂ .quotient) (power K α 1) (omega (arith, d₃ .shorter, d₂ .shorter))
           (d₂ .roots _ (other 1 2 (omega arith) (omega arith)) (d₃ .roots _ (other 1 3 (omega arith) (omega arith)) (roots 1 (omega arith))))
+
       d₀ : Divided K laws (d₁ .quotient) (power K α 0)
       d₀ = divided K laws (d₁ .quotient) (power K α 0) (omega (arith, d₃ .shorter, d₂ .shorter, d₁ .shorter))
           (d₁ .roots _ (other 0 1 (omega arith) (omega arith))
@@ -45,6 +49,7 @@ module _ {F : Type 0} (K : Arithmetic F) (laws : Laws K) (n : ℕ) (five : 5 ≤
 
 pub coded-by-syndromes : {F : Type 0} → Coded-by-syndromes F
 unfolding syndrome
-coded-by-syndromes K laws n five short w size =
-    (coded-syndrome K laws n w,
-    λ zeros. let f = factored K laws n five short (reverse w) (length-reverse w ∙ size) zeros in record { size = size; quotient = f .0; divides = f .1 })
+coded-by-syndromes K laws n five short w size = (
+  coded-syndrome K laws n w,
+  λ zeros. let f = factored K laws n five short (reverse w) (length-reverse w ∙ size) zeros in record { size = size; quotient = f .0; divides = f .1 },
+)

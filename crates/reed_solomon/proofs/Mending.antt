@@ -14,9 +14,9 @@ use Rattle.reed_solomon.proofs.Factors.{coded-by-syndromes}
 
 module _ {F : Type 0} (K : Arithmetic F) (laws : Laws K) where
   open Arithmetic K using (zero as 𝟘, one as 𝟙, plus as _+_, times as _*_)
+
   infixl 60 _+_
   infixl 70 _*_
-
   -- two roots of a quadratic: their power sums follow its recurrence
   recurrence : (d m l x y a b : F) → d * (x * x) + m * x + l ≡ 𝟘 → d * (y * y) + m * y + l ≡ 𝟘 →
       (a * (x * x) + b * (y * y)) * d ≡ m * (a * x + b * y) + l * (a + b)
@@ -101,4 +101,4 @@ pub mends-two : {F : Type 0} (K : Arithmetic F) → Laws K → (n : ℕ) → 5 �
 mends-two K laws n five short w size i j hi hj a b regular qi qj first second =
     coded-by-syndromes K laws n five short _ (length-altered K laws _ j b ∙ length-altered K laws w i a ∙ size) .1
     (λ k small. syndrome-altered K laws n k _ j b (length-altered K laws w i a ∙ size) hj
-      ∙ ap₂ (K .plus) (syndrome-altered K laws n k w i a size hi ∙ ap₂ (K .plus) (two-sums K laws w _ _ a b regular qi qj first second k small) refl) refl ∙ simp ring)
+    ∙ ap₂ (K .plus) (syndrome-altered K laws n k w i a size hi ∙ ap₂ (K .plus) (two-sums K laws w _ _ a b regular qi qj first second k small) refl) refl ∙ simp ring)

@@ -16,9 +16,9 @@ use Rattle.reed_solomon.proofs.Values.{power-swap, value-append}
 
 module _ {F : Type 0} (K : Arithmetic F) (laws : Laws K) where
   open Arithmetic K using (zero as 𝟘, one as 𝟙, plus as _+_, times as _*_, alpha as α)
+
   infixl 60 _+_
   infixl 70 _*_
-
   -- the locator of the first symbol of a word that goes on with w
   unfoldable pub place : List F → F
   place w = power K α (length w)
@@ -131,18 +131,20 @@ module _ {F : Type 0} (K : Arithmetic F) (laws : Laws K) where
     agree (a ∷ u) [] m g same-length fits alive near sums = absurd (omega arith)
     agree (a ∷ u) (b ∷ v) m g same-length fits alive near sums =
         elim (differ-cases a b) [
-          inl d ↦
-            ap₂ _∷_ (d .0) (agree u v m g rest (omega arith) (λ j h. alive j (omega arith)) (omega (arith, distance-cons a b u v))
-            (λ k h. plus-left K laws _ _ (b * g (place v) * power K (place v) k) (cc (here, sums k h, moment-cons g k a u, moment-cons g k b v))))
-        | inr d ↦
-            let near′ : N._+_ 1 (distance (K .number) u v) ≤ m = omega (arith, distance-cons a b u v) in
-            let tails : u ≡ v = agree u v (N._-_ m 1) (without (place u) g) rest (omega arith) (without-nonzero g u fits alive) (omega arith)
-                (λ k h. cc (here, sums k (omega arith), sums (suc k) (omega arith), moment-rest g k a u, moment-rest g k b v)) in
-            let heads : a * g (place u) * power K (place u) 0 ≡ b * g (place u) * power K (place u) 0 =
-                plus-both K laws _ _ (moment g 0 u) (cc (here, sums 0 (omega arith), moment-cons g 0 a u, moment-cons g 0 b v)) in
-            absurd (d .0 (times-both K laws a b (g (place u)) (unfold place in alive (length u) (omega arith)) (simp (clauses, ring) at heads))) ]
+          | inl d ↦
+              ap₂ _∷_ (d .0) (agree u v m g rest (omega arith) (λ j h. alive j (omega arith)) (omega (arith, distance-cons a b u v))
+              (λ k h. plus-left K laws _ _ (b * g (place v) * power K (place v) k) (cc (here, sums k h, moment-cons g k a u, moment-cons g k b v))))
+          | inr d ↦
+              let near′ : N._+_ 1 (distance (K .number) u v) ≤ m = omega (arith, distance-cons a b u v) in
+              let tails : u ≡ v = agree u v (N._-_ m 1) (without (place u) g) rest (omega arith) (without-nonzero g u fits alive) (omega arith)
+              (λ k h. cc (here, sums k (omega arith), sums (suc k) (omega arith), moment-rest g k a u, moment-rest g k b v)) in
+              let heads : a * g (place u) * power K (place u) 0 ≡ b * g (place u) * power K (place u) 0 =
+              plus-both K laws _ _ (moment g 0 u) (cc (here, sums 0 (omega arith), moment-cons g 0 a u, moment-cons g 0 b v)) in
+              absurd (d .0 (times-both K laws a b (g (place u)) (unfold place in alive (length u) (omega arith)) (simp (clauses, ring) at heads)))
+        ]
       where
         rest : length u ≡ length v
         rest = omega arith
+
         here : place u ≡ place v
         here = place-same u v rest

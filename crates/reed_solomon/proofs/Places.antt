@@ -15,8 +15,8 @@ use Rattle.reed_solomon.proofs.Errors.{One-error, Two-errors, altered-here, al
 
 module _ {F : Type 0} (K : Arithmetic F) (laws : Laws K) where
   open Arithmetic K using (zero as 𝟘, plus as _+_)
-  infixl 60 _+_
 
+  infixl 60 _+_
   record One (c w : List F) : Type 0 where
     pub at : ℕ
     pub by : F
@@ -41,8 +41,9 @@ module _ {F : Type 0} (K : Arithmetic F) (laws : Laws K) where
   none (x ∷ c) [] size d = absurd (omega arith)
   none (x ∷ c) (y ∷ w) size d =
       elim (differ-cases K laws x y) [
-        inl h ↦ ap₂ _∷_ (sym (h .0)) (none c w (omega arith) (omega (arith, distance-cons K laws x y c w)))
-      | inr h ↦ absurd (omega (arith, distance-cons K laws x y c w)) ]
+        | inl h ↦ ap₂ _∷_ (sym (h .0)) (none c w (omega arith) (omega (arith, distance-cons K laws x y c w)))
+        | inr h ↦ absurd (omega (arith, distance-cons K laws x y c w))
+      ]
 
   -- the difference of two symbols
   apart : (x y : F) → ¬ (x ≡ y) → ¬ (x + y ≡ 𝟘)
@@ -58,19 +59,41 @@ module _ {F : Type 0} (K : Arithmetic F) (laws : Laws K) where
 
   one-later : (x y : F) (c w : List F) → x ≡ y → One c w → One (x ∷ c) (y ∷ w)
   one-later x y c w e o =
-      record { at = suc (o .at); by = o .by; inside = omega arith; nonzero = o .nonzero;
-        is = ap₂ _∷_ (sym e) (o .is) ∙ sym (altered-next K laws x c (o .at) (o .by)) }
+      record {
+        at = suc (o .at);
+        by = o .by;
+        inside = omega arith;
+        nonzero = o .nonzero;
+        is = ap₂ _∷_ (sym e) (o .is) ∙ sym (altered-next K laws x c (o .at) (o .by));
+      }
 
   two-here : (x y : F) (c w : List F) → ¬ (x ≡ y) → One c w → Two (x ∷ c) (y ∷ w)
   two-here x y c w ne o =
-      record { at = 0; also = suc (o .at); by = x + y; and-by = o .by; order = omega arith; inside = omega arith;
-        nonzero = apart x y ne; nonzero′ = o .nonzero;
-        is = ap (λ v. y ∷ v) (o .is) ∙ sym (altered-next K laws y c (o .at) (o .by)) ∙ ap (λ v. altered K v (suc (o .at)) (o .by)) (first x y c) }
+      record {
+        at = 0;
+        also = suc (o .at);
+        by = x + y;
+        and-by = o .by;
+        order = omega arith;
+        inside = omega arith;
+        nonzero = apart x y ne;
+        nonzero′ = o .nonzero;
+        is = ap (λ v. y ∷ v) (o .is) ∙ sym (altered-next K laws y c (o .at) (o .by)) ∙ ap (λ v. altered K v (suc (o .at)) (o .by)) (first x y c);
+      }
 
   two-later : (x y : F) (c w : List F) → x ≡ y → Two c w → Two (x ∷ c) (y ∷ w)
   two-later x y c w e o =
-      record { at = suc (o .at); also = suc (o .also); by = o .by; and-by = o .and-by; order = omega arith; inside = omega arith;
-        nonzero = o .nonzero; nonzero′ = o .nonzero′; is = ap₂ _∷_ (sym e) (o .is) ∙ simp (altered-next K laws) }
+      record {
+        at = suc (o .at);
+        also = suc (o .also);
+        by = o .by;
+        and-by = o .and-by;
+        order = omega arith;
+        inside = omega arith;
+        nonzero = o .nonzero;
+        nonzero′ = o .nonzero′;
+        is = ap₂ _∷_ (sym e) (o .is) ∙ simp (altered-next K laws);
+      }
 
   one : (c w : List F) → length c ≡ length w → distance (K .number) c w ≡ 1 → One c w
   one [] [] size d = absurd (omega (arith, nil-distance K laws))
@@ -78,8 +101,9 @@ module _ {F : Type 0} (K : Arithmetic F) (laws : Laws K) where
   one (x ∷ c) [] size d = absurd (omega arith)
   one (x ∷ c) (y ∷ w) size d =
       elim (differ-cases K laws x y) [
-        inr h ↦ one-here x y c w (h .0) (none c w (omega arith) (omega (arith, distance-cons K laws x y c w)))
-      | inl h ↦ one-later x y c w (h .0) (one c w (omega arith) (omega (arith, distance-cons K laws x y c w))) ]
+        | inr h ↦ one-here x y c w (h .0) (none c w (omega arith) (omega (arith, distance-cons K laws x y c w)))
+        | inl h ↦ one-later x y c w (h .0) (one c w (omega arith) (omega (arith, distance-cons K laws x y c w)))
+      ]
 
   two : (c w : List F) → length c ≡ length w → distance (K .number) c w ≡ 2 → Two c w
   two [] [] size d = absurd (omega (arith, nil-distance K laws))
@@ -87,17 +111,23 @@ module _ {F : Type 0} (K : Arithmetic F) (laws : Laws K) where
   two (x ∷ c) [] size d = absurd (omega arith)
   two (x ∷ c) (y ∷ w) size d =
       elim (differ-cases K laws x y) [
-        inr h ↦ two-here x y c w (h .0) (one c w (omega arith) (omega (arith, distance-cons K laws x y c w)))
-      | inl h ↦ two-later x y c w (h .0) (two c w (omega arith) (omega (arith, distance-cons K laws x y c w))) ]
+        | inr h ↦ two-here x y c w (h .0) (one c w (omega arith) (omega (arith, distance-cons K laws x y c w)))
+        | inl h ↦ two-later x y c w (h .0) (two c w (omega arith) (omega (arith, distance-cons K laws x y c w)))
+      ]
 
 -- A word that differs from a coded word in one place, and what its syndromes then say.
 pub one-apart : {F : Type 0} (K : Arithmetic F) → Laws K → (n : ℕ) → 5 ≤ n → n ≤ K .order →
     (c w : List F) → Coded K n c → length w ≡ n → distance (K .number) c w ≡ 1 →
     (i : ℕ) × (e : F) × (i < n) × (¬ (e ≡ K .zero)) × (w ≡ altered K c i e) × One-error K w (locator K n i) e
 one-apart K laws n five short c w coded size d =
-    let o : One K laws c w = one K laws c w (coded .size ∙ sym size) d in
-    (o .at, o .by, omega (arith, coded .size), o .nonzero, o .is,
-    subst (λ v. One-error K v (locator K n (o .at)) (o .by)) (sym (o .is)) (finds-one K laws n five short c coded (o .at) (omega (arith, coded .size)) (o .by)))
+    let o : One K laws c w = one K laws c w (coded .size ∙ sym size) d in (
+      o .at,
+      o .by,
+      omega (arith, coded .size),
+      o .nonzero,
+      o .is,
+      subst (λ v. One-error K v (locator K n (o .at)) (o .by)) (sym (o .is)) (finds-one K laws n five short c coded (o .at) (omega (arith, coded .size)) (o .by)),
+    )
 
 -- And in two places.
 pub two-apart : {F : Type 0} (K : Arithmetic F) → Laws K → (n : ℕ) → 5 ≤ n → n ≤ K .order →
@@ -105,7 +135,16 @@ pub two-apart : {F : Type 0} (K : Arithmetic F) → Laws K → (n : ℕ) → 5 �
     (i j : ℕ) × (a b : F) × (i < j) × (j < n) × (¬ (a ≡ K .zero)) × (¬ (b ≡ K .zero)) ×
     (w ≡ altered K (altered K c i a) j b) × Two-errors K w (locator K n i) (locator K n j) a b
 two-apart K laws n five short c w coded size d =
-    let o : Two K laws c w = two K laws c w (coded .size ∙ sym size) d in
-    (o .at, o .also, o .by, o .and-by, o .order, omega (arith, coded .size), o .nonzero, o .nonzero′, o .is,
-    subst (λ v. Two-errors K v (locator K n (o .at)) (locator K n (o .also)) (o .by) (o .and-by)) (sym (o .is)) (finds-two K laws n five short c coded (o .at) (o .also) (omega (arith, coded .size)) (omega (arith, coded .size)) (omega arith)
-      (o .by) (o .and-by) (o .nonzero) (o .nonzero′)))
+    let o : Two K laws c w = two K laws c w (coded .size ∙ sym size) d in (
+      o .at,
+      o .also,
+      o .by,
+      o .and-by,
+      o .order,
+      omega (arith, coded .size),
+      o .nonzero,
+      o .nonzero′,
+      o .is,
+      subst (λ v. Two-errors K v (locator K n (o .at)) (locator K n (o .also)) (o .by) (o .and-by)) (sym (o .is)) (finds-two K laws n five short c coded (o .at) (o .also) (omega (arith, coded .size)) (omega (arith, coded .size)) (omega arith)
+          (o .by) (o .and-by) (o .nonzero) (o .nonzero′)),
+    )

@@ -8,9 +8,9 @@ use Rattle.reed_solomon.proofs.Clauses.{clauses, sum-nil, sum-cons, scaled-nil
 
 module _ {F : Type 0} (K : Arithmetic F) (laws : Laws K) where
   open Arithmetic K using (zero as 𝟘, one as 𝟙, plus as _+_, times as _*_)
+
   infixl 60 _+_
   infixl 70 _*_
-
   sum-right-nil : (p : List F) → sum K p [] ≡ p
   sum-right-nil [] = simp clauses
   sum-right-nil (a ∷ p) = simp clauses

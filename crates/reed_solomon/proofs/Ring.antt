@@ -5,9 +5,9 @@ use Rattle.galois.specs.Field.{Arithmetic, Laws}
 
 module _ {F : Type 0} (K : Arithmetic F) (laws : Laws K) where
   open Arithmetic K using (zero as 𝟘, one as 𝟙, plus as _+_, times as _*_)
+
   infixl 60 _+_
   infixl 70 _*_
-
   -- the field's own laws, as lemmas that a ruleset can list
   pub plus-comm : (a b : F) → a + b ≡ b + a
   plus-comm = laws .plus-comm

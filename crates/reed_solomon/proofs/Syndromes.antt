@@ -11,9 +11,9 @@ use Rattle.reed_solomon.proofs.Values.{value-product, value-linear}
 
 module _ {F : Type 0} (K : Arithmetic F) (laws : Laws K) where
   open Arithmetic K using (zero as 𝟘, plus as _+_, times as _*_, alpha as α)
+
   infixl 60 _+_
   infixl 70 _*_
-
   value-generator : (x : F) → value K (generator K) x ≡ (x + power K α 0) * (x + power K α 1) * (x + power K α 2) * (x + power K α 3)
   unfolding generator
   value-generator x = simp (value-product, value-linear)

@@ -10,9 +10,9 @@ use Rattle.reed_solomon.proofs.Clauses.{clauses}
 
 module _ {F : Type 0} (K : Arithmetic F) (laws : Laws K) where
   open Arithmetic K using (zero as 𝟘, one as 𝟙, plus as _+_, times as _*_)
+
   infixl 60 _+_
   infixl 70 _*_
-
   pub power-one : (k : ℕ) → power K 𝟙 k ≡ 𝟙
   power-one ℕ.zero = simp clauses
   power-one (suc k) = simp (clauses, power-one k, ring)

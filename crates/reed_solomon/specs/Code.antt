@@ -14,8 +14,9 @@ unfoldable pub differing-from : {A : Type 0} → (A → ℕ) → ℕ → List A 
 differing-from number i [] v = []
 differing-from number i (a ∷ u) [] = []
 differing-from number i (a ∷ u) (b ∷ v) = elim (ℕ-discrete (number a) (number b)) [
-    yes _ ↦ differing-from number (suc i) u v
-  | no _ ↦ i ∷ differing-from number (suc i) u v ]
+  | yes _ ↦ differing-from number (suc i) u v
+  | no _ ↦ i ∷ differing-from number (suc i) u v
+]
 
 -- The places at which they differ, the first symbol's place being 0.
 abbrev pub differing : {A : Type 0} → (A → ℕ) → List A → List A → List ℕ

@@ -7,9 +7,9 @@ use Rattle.reed_solomon.specs.Code.{syndrome}
 
 module _ {F : Type 0} (K : Arithmetic F) where
   open Arithmetic K using (zero as 𝟘, plus as _+_, times as _*_, alpha as α)
+
   infixl 60 _+_
   infixl 70 _*_
-
   -- e added to the symbol at place i
   unfoldable pub altered : List F → ℕ → F → List F
   altered w i e = set w i (getD w i 𝟘 + e)

@@ -4,9 +4,9 @@ use Rattle.galois.specs.Field.{Arithmetic}
 
 module _ {F : Type 0} (K : Arithmetic F) where
   open Arithmetic K using (zero as 𝟘, one as 𝟙, plus as _+_, times as _*_)
+
   infixl 60 _+_
   infixl 70 _*_
-
   unfoldable pub sum : List F → List F → List F
   sum [] q = q
   sum (a ∷ p) [] = a ∷ p

@@ -1,4 +1,4 @@
-// The arithmetic of `Gf16`.
+//! The arithmetic of `Gf16`.
 ghost use mathlib.Core.Path.{_≡_};
 ghost use Prim.Native.Nat.{_<_};
 ghost use Rattle.galois.specs.Binary.{shifts};
@@ -108,7 +108,11 @@ pub impl Field for Gf16 as Gf16Field {
     }
 
     fn from_number(number: u8) -> Option<Gf16> {
-        if number < 16 { Some(element(number)) } else { None }
+        if number < 16 {
+            Some(element(number))
+        } else {
+            None
+        }
     }
 
     fn number(self) -> u8 {

@@ -1,4 +1,4 @@
-// The arithmetic of `Gf256`.
+//! The arithmetic of `Gf256`.
 ghost use mathlib.Core.Path.{_≡_};
 ghost use Prim.Native.Nat.{_<_};
 ghost use Rattle.galois.specs.Binary.{shifts};

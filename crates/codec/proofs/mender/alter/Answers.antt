@@ -11,4 +11,4 @@ returns g c =
     let w = c .args .word .now in
     let i = c .args .place in
     ap (set w i) (g .F·Field·met .sums _ _ _ (c .add .ensures)
-      ∙ ap (λ x. K .plus x (c .args .by)) (c .index-word-place .is ∙ getD-inside w i _ (K .zero) (c .pre)))
+    ∙ ap (λ x. K .plus x (c .args .by)) (c .index-word-place .is ∙ getD-inside w i _ (K .zero) (c .pre)))

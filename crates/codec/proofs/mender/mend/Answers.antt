@@ -15,9 +15,10 @@ returns-then-all-zero g c =
     let m = g .F·Field·met in
     let w = c .args .word .now in
     let short : length w ≤ K .order = omega (arith, c .if-n-order .left, c .order .ensures) in
-    mended K (m .laws) w w (Some (c .none .result))
-    (told-clean K (m .laws) w (c .if-n-lt5 .left) short (c .syndromes-of-s .result) (c .syndromes-of-s .ensures) (c .all-zero .ensures .yes (c .if-all-zero .taken)),
-    names-none (c .none .result) (c .none .ensures .0) ∙ sym (differing-none K (m .laws) w))
+    mended K (m .laws) w w (Some (c .none .result)) (
+      told-clean K (m .laws) w (c .if-n-lt5 .left) short (c .syndromes-of-s .result) (c .syndromes-of-s .ensures) (c .all-zero .ensures .yes (c .if-all-zero .taken)),
+      names-none (c .none .result) (c .none .ensures .0) ∙ sym (differing-none K (m .laws) w),
+    )
 
 pub mend-one-requires : need.mend-one-requires
 mend-one-requires g c κs =

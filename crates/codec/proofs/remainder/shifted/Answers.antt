@@ -10,7 +10,10 @@ returns g c = λ w remains k h.
     let m = g .F·Field·met in
     let x = power K (K .alpha) k in
     (λ i. cubic-at K (record {
-        k3 = m .sums _ _ _ (c .add .ensures) i; k2 = m .sums _ _ _ (c .add-2 .ensures) i;
-        k1 = m .sums _ _ _ (c .add-3 .ensures) i; k0 = m .sums _ _ _ (c .add-4 .ensures) i }) x)
+      k3 = m .sums _ _ _ (c .add .ensures) i;
+      k2 = m .sums _ _ _ (c .add-2 .ensures) i;
+      k1 = m .sums _ _ _ (c .add-3 .ensures) i;
+      k0 = m .sums _ _ _ (c .add-4 .ensures) i;
+    }) x)
     ∙ carried K (m .laws) (c .args .r) (c .times-x4-carried .result) (c .args .symbol) x _ (c .times-x4-carried .ensures k h) (remains k h)
     ∙ sym (syndrome-push K (m .laws) w (c .args .symbol) k)

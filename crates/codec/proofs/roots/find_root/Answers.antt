@@ -15,14 +15,18 @@ next-here-requires g c κs = record { small = omega (arith, c .loop .inv .0); is
 pub loop-again : need.loop-again
 loop-again g c =
     let K = g .F·Field .field in
-    let here = c .loop .here in
-    (omega (arith, c .next-here .ensures .exponent, c .loop .inv .0), c .next-here .ensures .is, λ t terms.
-      let before = c .loop .inv .2 t terms in
-      (subst (λ x. Terms K t x (c .next-terms-terms .result)) (sym (c .next-here .ensures .value)) (c .next-terms-terms .ensures t (here .value) (before .0)),
-      λ k l h e. below-more (λ k. c .args .start .exponent ≤ k → trinomial-at K t (power K (K .alpha) k) ≡ K .zero → ⊥) (here .exponent)
-        (λ k h l e. before .1 k l h e)
-        (λ l e. c .cancel .ensures .no (c .if-cancel .left) t (here .value) (before .0) (ap (trinomial-at K t) (c .loop .inv .1) ∙ e))
-        k (omega (arith, c .next-here .ensures .exponent)) l e))
+    let here = c .loop .here in (
+      omega (arith, c .next-here .ensures .exponent, c .loop .inv .0),
+      c .next-here .ensures .is,
+      λ t terms.
+          let before = c .loop .inv .2 t terms in (
+            subst (λ x. Terms K t x (c .next-terms-terms .result)) (sym (c .next-here .ensures .value)) (c .next-terms-terms .ensures t (here .value) (before .0)),
+            λ k l h e. below-more (λ k. c .args .start .exponent ≤ k → trinomial-at K t (power K (K .alpha) k) ≡ K .zero → ⊥) (here .exponent)
+                (λ k h l e. before .1 k l h e)
+                (λ l e. c .cancel .ensures .no (c .if-cancel .left) t (here .value) (before .0) (ap (trinomial-at K t) (c .loop .inv .1) ∙ e))
+                k (omega (arith, c .next-here .ensures .exponent)) l e,
+          ),
+    )
 
 pub returns-then-cancel : need.returns-then-cancel
 returns-then-cancel g c =

@@ -8,4 +8,4 @@ Inv-loop g l =
     let K = g .F·Field .field in
     (l .here .exponent ≡ l .counter) × Is-power K (l .here)
     × ((t : Trinomial (g .F .Denot)) → Terms K t (l .entry .here .value) (l .entry .terms) →
-      Terms K t (l .here .value) (l .terms) × No-root K t (l .entry .here .exponent) (l .here .exponent))
+    Terms K t (l .here .value) (l .terms) × No-root K t (l .entry .here .exponent) (l .here .exponent))

@@ -26,7 +26,7 @@ returns-in-Some g c =
     let size : length w ≡ length (c .args .bytes .now) = sym (length-map w (K .number)) ∙ ap length e in
     subst (λ u. Mended-bytes K (length (c .args .bytes .now)) (c .args .bytes .now) u (Ok (c .in-Some .mends))) (sym (c .write-numbers .ensures))
     (subst (λ b. Mended-bytes K (length b) b (map (K .number) (c .mend .last .word)) (Ok (c .in-Some .mends))) e
-      (given K (g .F·Field·met .laws) w (omega (arith, c .pre .long)) (omega (arith, c .pre .short)) (c .mend .last .word) (c .in-Some .mends) (c .in-Some .ensures tt)))
+    (given K (g .F·Field·met .laws) w (omega (arith, c .pre .long)) (omega (arith, c .pre .short)) (c .mend .last .word) (c .in-Some .mends) (c .in-Some .ensures tt)))
 
 pub returns-in-None : need.returns-in-None
 returns-in-None g c =
@@ -36,4 +36,4 @@ returns-in-None g c =
     let size : length w ≡ length (c .args .bytes .now) = sym (length-map w (K .number)) ∙ ap length e in
     subst (λ d. Mended-bytes K (length (c .args .bytes .now)) (c .args .bytes .now) (c .args .bytes .now) (Err d)) (sym (c .new .ensures))
     (subst (λ b. Mended-bytes K (length b) b b (Err _)) e
-      (lost K (g .F·Field·met .laws) w (omega (arith, c .pre .long)) (omega (arith, c .pre .short)) (c .mend .last .word) (c .in-None .ensures tt)))
+    (lost K (g .F·Field·met .laws) w (omega (arith, c .pre .long)) (omega (arith, c .pre .short)) (c .mend .last .word) (c .in-None .ensures tt)))

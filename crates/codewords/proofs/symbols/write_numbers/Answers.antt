@@ -6,9 +6,11 @@ use Rattle.codewords.proofs.Numbers.{write-more}
 use Rattle.codewords.proofs.symbols.write_numbers.Needs as need
 
 pub loop-i-again : need.loop-i-again
-loop-i-again g c =
-    (omega arith, write-more (g .F·Field .field .number) (c .args .word .now) (c .loop-i .bytes) (c .loop-i .i) (c .index-word-i .result) (c .number .result)
-      (c .loop-i-test .taken) (omega arith) (c .loop-i .inv .1) (c .index-word-i .is) (c .number .ensures))
+loop-i-again g c = (
+  omega arith,
+  write-more (g .F·Field .field .number) (c .args .word .now) (c .loop-i .bytes) (c .loop-i .i) (c .index-word-i .result) (c .number .result)
+      (c .loop-i-test .taken) (omega arith) (c .loop-i .inv .1) (c .index-word-i .is) (c .number .ensures),
+)
 
 pub returns : need.returns
 returns g c =

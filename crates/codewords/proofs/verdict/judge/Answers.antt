@@ -17,7 +17,7 @@ returns-in-Ok c =
     let after = c .mend-block .last .block in
     subst (λ r. Judged b r) (sym (c .mended .ensures))
     (judged-mended b after (c .if-block-ne-BLOCK .left) all (c .in-Ok .mends)
-      (subst (λ x. Mended-bytes gf256 224 x after (Ok (c .in-Ok .mends))) (c .copy-from-slice .ensures .after) (c .in-Ok .ensures tt)))
+    (subst (λ x. Mended-bytes gf256 224 x after (Ok (c .in-Ok .mends))) (c .copy-from-slice .ensures .after) (c .in-Ok .ensures tt)))
 
 pub returns-in-Err : need.returns-in-Err
 returns-in-Err c =

@@ -20,7 +20,7 @@ pub returns : need.returns
 returns c = record {
   of-zero = λ e. absurd (c .if-self-eq0 .left (ap (λ (x : Gf16). x .bits) e));
   of-other = λ ne. of-inverse sound16 coded16 (c .args .self) (c .element-2 .result) (c .log .result) (c .power .result)
-    (c .log .ensures .is) (c .log .ensures .small) (c .power .ensures) (c .element-2 .ensures);
+      (c .log .ensures .is) (c .log .ensures .small) (c .power .ensures) (c .element-2 .ensures);
 }
 
 pub element-requires-2 : need.element-requires-2

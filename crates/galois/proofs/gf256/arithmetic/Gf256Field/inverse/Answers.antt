@@ -20,5 +20,5 @@ pub returns : need.returns
 returns c = record {
   of-zero = λ e. absurd (c .if-self-eq0 .left (ap (λ (x : Gf256). x .bits) e));
   of-other = λ ne. of-inverse sound256 coded256 (c .args .self) (c .element-2 .result) (c .log .result) (c .power .result)
-    (c .log .ensures .is) (c .log .ensures .small) (c .power .ensures) (c .element-2 .ensures);
+      (c .log .ensures .is) (c .log .ensures .small) (c .power .ensures) (c .element-2 .ensures);
 }

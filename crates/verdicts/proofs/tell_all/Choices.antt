@@ -1,0 +1,7 @@
+use mathlib.Core.Path.{_≡_}
+use lib.ListN.{length}
+use Rattle.verdicts.proofs.tell_all.Given as given
+
+-- an array that the loop writes keeps its length
+abbrev pub Inv-loop-ordinal : given.InvT-loop-ordinal
+Inv-loop-ordinal g l = length (l .block) ≡ 224
