@@ -15,6 +15,9 @@ use crate::syndromes::all_zero;
 use crate::syndromes::syndromes_of;
 use galois::Field;
 
+// The code's shortest words: one data symbol and four check symbols.
+const SHORTEST: usize = 5;
+
 // Adds `by` to the symbol at `place`.
 fn alter<F: Field>(word: &mut [F], place: usize, by: F)
     requires { ⌜ place < length (now word) ⌝ }
@@ -106,7 +109,7 @@ pub fn mend<F: Field>(word: &mut [F]) -> Option<MendRecord>
     ensures { λ r. ⌜ Mended field (now (word .entry)) (now (word .exit)) r ⌝ }
 {
     let n = word.len();
-    if n < 5 || n > F::order() {
+    if n < SHORTEST || n > F::order() {
         return None;
     }
     let s = syndromes_of(word);

@@ -1,7 +1,7 @@
 -- What is said of a coded block, and the line that says it.
 use mathlib.Core.Path.{_≡_}
 use mathlib.Core.List.{List, [], _∷_, _++_}
-use Prim.Native.Nat.{ℕ}
+use Prim.Native.Nat.{ℕ, _+_, _/_, _%_, _^_, _<_, _≤_}
 use lib.Chars.{codes}
 use lib.ListN.{length}
 use Rattle.std.specs.Written.{decimal}
@@ -55,3 +55,21 @@ pub record Tells (ordinal : ℕ) (b line : List ℕ) : Type 0 where
   pub verdict : Verdict
   pub judged : Judged b verdict
   pub text : line ≡ verdict-text ordinal verdict
+
+-- Ordinals are counted in 64 bits.
+abbrev pub next-ordinal : ℕ → ℕ
+next-ordinal ordinal = (ordinal + 1) % 2 ^ 64
+
+-- The text has a line for each 224 bytes of b, in their order, with ordinals from o on; fewer bytes at the end have a last line.
+pub data Lines : ℕ → List ℕ → List ℕ → Type 0 where
+  none : (o : ℕ) → Lines o [] []
+  last : (o : ℕ) (b line : List ℕ) → 1 ≤ length b → length b < 224 → Tells o b line → Lines o b line
+  block : (o : ℕ) (b rest line text : List ℕ) → length b ≡ 224 → Tells o b line → Lines (next-ordinal o) rest text →
+      Lines o (b ++ rest) (line ++ text)
+
+-- The lines of a stream are those of its pieces, one after the other, where each piece but the last is of whole blocks and the
+-- ordinals go on.
+abbrev pub Lines-join : Type 0
+Lines-join =
+    (o : ℕ) → o < 2 ^ 64 → (b c t u : List ℕ) → length b % 224 ≡ 0 →
+    Lines o b t → Lines ((o + length b / 224) % 2 ^ 64) c u → Lines o (b ++ c) (t ++ u)

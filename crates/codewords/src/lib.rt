@@ -14,4 +14,6 @@ pub use verdict::VerdictDebug;
 pub use verdict::VerdictPartialEq;
 pub use verdict::judge;
 pub use verdict::judged_one_way;
+pub use verdict::lines_join;
 pub use verdict::verdict_line;
+pub use verdict::verdict_lines;

@@ -1,6 +1,6 @@
 //! Verdicts on blocks, and their lines.
 ghost use mathlib.Core.Path.{_≡_};
-ghost use Rattle.codewords.specs.Verdicts.{Judged, Judged-one-way, Tells, verdict-text, by-places};
+ghost use Rattle.codewords.specs.Verdicts.{Judged, Judged-one-way, Lines, Lines-join, Tells, verdict-text, by-places};
 ghost use Rattle.codec.specs.Mend.{places};
 ghost use Rattle.std.specs.Of.String.{string-bytes};
 ghost use Rattle.std.specs.Vec.{made};
@@ -70,6 +70,31 @@ pub fn verdict_line(heap: Global, ordinal: u64, block: &[u8]) -> Result<String, 
     ensures { λ r. ⌜ made r (λ s. Tells ordinal (now (block .entry)) (string-bytes s)) ⌝ }
 {
     line(heap, ordinal, judge(block))
+}
+
+/// The lines of the blocks that the bytes are cut into, in their order, with ordinals from `first` on; bytes that are left at the end
+/// have a line that says `short`.
+pub fn verdict_lines(heap: Global, first: u64, bytes: &[u8]) -> Result<String, AllocError>
+    ensures { λ r. ⌜ made r (λ s. Lines first (now (bytes .entry)) (string-bytes s)) ⌝ }
+{
+    let mut text = String::new(heap);
+    let mut ordinal = first;
+    let mut rest = bytes;
+    while !rest.is_empty() {
+        let (block, after) = rest.split_at(rest.len().min(BLOCK));
+        let line = verdict_line(heap, ordinal, block)?;
+        text.push_str(line.as_str())?;
+        ordinal = ordinal.wrapping_add(1);
+        rest = after;
+    }
+    Ok(text)
+}
+
+/// The lines of a stream are those of its pieces, where each piece but the last is of whole blocks.
+pub fn lines_join() -> u8
+    ensures { λ _. ⌜ Lines-join ⌝ }
+{
+    0
 }
 
 /// There is one verdict on each run of bytes.

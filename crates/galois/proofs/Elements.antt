@@ -36,7 +36,7 @@ laws256 = laws sound256 coded256
 pub laws16 : Laws gf16
 laws16 = laws sound16 coded16
 
--- ---- 256 elements: the table of powers, and a shift
+-- 256 elements: the table of powers, and a shift
 
 table256 : T (each (λ k. eqb (getD powers256 k 0) (shifts 7 285 k 1)) 510)
 unfolding shift shifts each both
@@ -61,7 +61,7 @@ high256 x l h =
     subst (λ (y : ℕ). bitXor ((y * 2) % 256) 29 ≡ shift 7 285 y) (sub-add-cancel l)
     (eqb→eq _ _ (at (λ k. eqb (bitXor (((k + 128) * 2) % 256) 29) (shift 7 285 (k + 128))) 128 high256-test (x - 128) (omega arith)))
 
--- ---- 16 elements: the table of powers, and a shift
+-- 16 elements: the table of powers, and a shift
 
 table16 : T (each (λ k. eqb (getD powers16 k 0) (shifts 3 19 k 1)) 30)
 unfolding shift shifts each both

@@ -12,7 +12,7 @@ use lib.Bits.{bitXor, xor-comm, xor-assoc, xor-self, xor-zero-r}
 use Rattle.galois.specs.Binary.{shift, product, shifts}
 use Rattle.galois.proofs.Linear as linear
 
--- ---- tests at each number below n
+-- tests at each number below n
 
 unfoldable pub both : Bool → Bool → Bool
 both true b = b
@@ -41,9 +41,9 @@ at f (suc n) t k h =
       | no e ↦ at f n (both-right (f n) (each f n) t) k (omega arith)
     ]
 
--- ---- what antt computes of one field
+-- what antt computes of one field
 
--- doubling stays within the field; P, as a factor, gives nothing; log is the logarithm to the base two
+-- A shift stays within the field; P times anything is zero; log is the logarithm to the base alpha.
 pub record Sound (n P order : ℕ) (log : ℕ → ℕ) : Type 0 where
   pub size : 2 ^ suc n ≡ suc order
   pub some : 0 < order
@@ -74,16 +74,16 @@ module _ {n P order : ℕ} {log : ℕ → ℕ} (s : Sound n P order log) where
   unfolding shift
   parts x y = linear.product-left n P (suc (suc n)) (x * 2) (x / 2 ^ n % 2 * P) y
 
-  -- doubling the first factor doubles the product
-  pub product-double : (x y : ℕ) → x < 2 ^ suc n → y < 2 ^ suc n → product n P (suc n) (shift n P x) y ≡ shift n P (product n P (suc n) x y)
-  product-double x y hx hy =
+  -- a shift of the first factor shifts the product
+  pub product-shifted-left : (x y : ℕ) → x < 2 ^ suc n → y < 2 ^ suc n → product n P (suc n) (shift n P x) y ≡ shift n P (product n P (suc n) x y)
+  product-shifted-left x y hx hy =
       sym (linear.product-more n P (suc n) (shift n P x) y (shift-lt x hx))
       ∙ parts x y
-      ∙ ap₂ bitXor (linear.product-even n P (suc n) x y ∙ linear.product-shift n P (suc n) x y) nothing
+      ∙ ap₂ bitXor (linear.product-even n P (suc n) x y ∙ linear.product-shift n P (suc n) x y) none
       ∙ xor-zero-r _
     where
-      nothing : product n P (suc (suc n)) (x / 2 ^ n % 2 * P) y ≡ 0
-      nothing = linear.by-bit (λ b. product n P (suc (suc n)) (b * P) y ≡ 0)
+      none : product n P (suc (suc n)) (x / 2 ^ n % 2 * P) y ≡ 0
+      none = linear.by-bit (λ b. product n P (suc (suc n)) (b * P) y ≡ 0)
           (ap (λ (q : ℕ). product n P (suc (suc n)) q y) (zero-mul P) ∙ linear.product-zero n P (suc (suc n)) y)
           (ap (λ (q : ℕ). product n P (suc (suc n)) q y) (one-mul P) ∙ gone y hy)
           (x / 2 ^ n % 2) (linear.bit (x / 2 ^ n))
@@ -92,7 +92,7 @@ module _ {n P order : ℕ} {log : ℕ → ℕ} (s : Sound n P order log) where
   unfolding shifts
   product-raised zero x y hx hy = refl
   product-raised (suc k) x y hx hy =
-      product-double (shifts n P k x) y (shifts-lt k x hx) hy ∙ ap (shift n P) (product-raised k x y hx hy)
+      product-shifted-left (shifts n P k x) y (shifts-lt k x hx) hy ∙ ap (shift n P) (product-raised k x y hx hy)
 
   pub log-is : (x : ℕ) → suc x < 2 ^ suc n → shifts n P (log (suc x)) 1 ≡ suc x
   log-is x h = eqb→eq _ _ (at (λ x. eqb (shifts n P (log (suc x)) 1) (suc x)) order (s .logs) x (omega (arith, s .size)))
@@ -100,7 +100,7 @@ module _ {n P order : ℕ} {log : ℕ → ℕ} (s : Sound n P order log) where
   pub log-lt : (x : ℕ) → suc x < 2 ^ suc n → log (suc x) < order
   log-lt x h = ltb→lt _ _ (at (λ x. ltb (log (suc x)) order) order (s .small) x (omega (arith, s .size)))
 
-  -- the product is as many doublings as the first factor's logarithm
+  -- the product is as many shifts as the first factor's logarithm
   pub by-log : (x y : ℕ) → suc x < 2 ^ suc n → y < 2 ^ suc n → product n P (suc n) (suc x) y ≡ shifts n P (log (suc x)) y
   by-log x y hx hy =
       ap (λ (q : ℕ). product n P (suc n) q y) (sym (log-is x hx))
@@ -111,13 +111,13 @@ module _ {n P order : ℕ} {log : ℕ → ℕ} (s : Sound n P order log) where
   product-lt zero y hx hy = rw (linear.product-zero n P (suc n) y) hx
   product-lt (suc x) y hx hy = rw (by-log x y hx hy) (shifts-lt (log (suc x)) y hy)
 
-  pub product-nothing : (x : ℕ) → x < 2 ^ suc n → product n P (suc n) x 0 ≡ 0
-  product-nothing zero hx = linear.product-zero n P (suc n) 0
-  product-nothing (suc x) hx = by-log x 0 hx (omega (arith, one-lt)) ∙ linear.shifts-zero n P (log (suc x))
+  pub product-by-zero : (x : ℕ) → x < 2 ^ suc n → product n P (suc n) x 0 ≡ 0
+  product-by-zero zero hx = linear.product-zero n P (suc n) 0
+  product-by-zero (suc x) hx = by-log x 0 hx (omega (arith, one-lt)) ∙ linear.shifts-zero n P (log (suc x))
 
   pub comm : (x y : ℕ) → x < 2 ^ suc n → y < 2 ^ suc n → product n P (suc n) x y ≡ product n P (suc n) y x
-  comm zero y hx hy = linear.product-zero n P (suc n) y ∙ sym (product-nothing y hy)
-  comm (suc x) zero hx hy = product-nothing (suc x) hx ∙ sym (linear.product-zero n P (suc n) (suc x))
+  comm zero y hx hy = linear.product-zero n P (suc n) y ∙ sym (product-by-zero y hy)
+  comm (suc x) zero hx hy = product-by-zero (suc x) hx ∙ sym (linear.product-zero n P (suc n) (suc x))
   comm (suc x) (suc y) hx hy =
       by-log x (suc y) hx hy ∙ ap (shifts n P (log (suc x))) (sym (log-is y hy)) ∙ linear.shifts-shifts n P (log (suc x)) (log (suc y)) 1
       ∙ ap (λ (k : ℕ). shifts n P k 1) (add-comm (log (suc x)) (log (suc y)))

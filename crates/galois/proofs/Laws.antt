@@ -31,10 +31,10 @@ module _ {n P order : ℕ} {log : ℕ → ℕ} (s : Sound n P order log) {F : Ty
   two-lt : 2 < 2 ^ suc n
   two-lt = subst (λ (q : ℕ). q < 2 ^ suc n) (s .two) (field.shift-lt s 1 (field.one-lt s))
 
-  -- times alpha is a doubling
+  -- alpha times an element is its shift
   pub alpha-bits : (y : ℕ) → y < 2 ^ suc n → product n P (suc n) 2 y ≡ shift n P y
   alpha-bits y h =
-      ap (λ (q : ℕ). product n P (suc n) q y) (sym (s .two)) ∙ field.product-double s 1 y (field.one-lt s) h
+      ap (λ (q : ℕ). product n P (suc n) q y) (sym (s .two)) ∙ field.product-shifted-left s 1 y (field.one-lt s) h
       ∙ ap (shift n P) (linear.product-one n P n y)
 
   power-bits : (i : ℕ) → bits (power (binary-field n P bits of) (of 2) i) ≡ shifts n P i 1
@@ -51,23 +51,15 @@ module _ {n P order : ℕ} {log : ℕ → ℕ} (s : Sound n P order log) {F : Ty
       let m = order - log (suc b) in
       (of (shifts n P m 1), ap of (ap₂ (product n P (suc n)) e (exact (shifts n P m 1) (field.shifts-lt s m 1 (field.one-lt s))) ∙ field.inverse s b (subst (λ (q : ℕ). q < 2 ^ suc n) e (c .below x))))
 
-  -- what is not nothing has a number above 0
-  pub positive : (x : F) → (x ≡ of 0 → ⊥) → 0 < bits x
-  positive x h = go (bits x) refl
-    where
-      go : (b : ℕ) → bits x ≡ b → 0 < bits x
-      go zero e = absurd (h (c .same x (of 0) (e ∙ sym (exact 0 (omega (arith, field.one-lt s))))))
-      go (suc b) e = omega (arith, e)
-
   -- a product with what the rest of the order gives
   pub of-inverse : (x y : F) (a b : ℕ) → shifts n P a 1 ≡ bits x → a < order → b ≡ shifts n P (order - a) 1 → y ≡ of b → of (product n P (suc n) (bits x) (bits y)) ≡ of 1
   of-inverse x y a b ea h eb ey =
       ap of (ap (product n P (suc n) (bits x)) (ap bits (ey ∙ ap of eb) ∙ exact _ (field.shifts-lt s (order - a) 1 (field.one-lt s))) ∙ field.of-rest s a (bits x) ea h)
 
-  -- a product with nothing
-  pub of-nothing : (x y : F) → (bits x ≡ 0) ⊎ ((bits x ≡ 0 → ⊥) × (bits y ≡ 0)) → of 0 ≡ of (product n P (suc n) (bits x) (bits y))
-  of-nothing x y (inl e) = ap of (sym (ap (λ (q : ℕ). product n P (suc n) q (bits y)) e ∙ linear.product-zero n P (suc n) (bits y)))
-  of-nothing x y (inr e) = ap of (sym (ap (product n P (suc n) (bits x)) (e .1) ∙ field.product-nothing s (bits x) (c .below x)))
+  -- a product with zero
+  pub of-zero : (x y : F) → (bits x ≡ 0) ⊎ ((bits x ≡ 0 → ⊥) × (bits y ≡ 0)) → of 0 ≡ of (product n P (suc n) (bits x) (bits y))
+  of-zero x y (inl e) = ap of (sym (ap (λ (q : ℕ). product n P (suc n) q (bits y)) e ∙ linear.product-zero n P (suc n) (bits y)))
+  of-zero x y (inr e) = ap of (sym (ap (product n P (suc n) (bits x)) (e .1) ∙ field.product-by-zero s (bits x) (c .below x)))
 
   pub laws : Laws (binary-field n P bits of)
   laws = record {

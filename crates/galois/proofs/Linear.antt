@@ -1,4 +1,4 @@
--- What doubling and the product keep, for every degree and every polynomial: both are additive.
+-- Shifts and the product are additive, for every degree and every polynomial.
 use mathlib.Core.Path.{_≡_, refl, sym, ap, ap₂, _∙_, subst}
 use Prim.Native.Nat.{ℕ, zero, suc, _+_, _*_, _/_, _%_, _^_, _≤_, _<_}
 use native.Mathlib.Nat.{zero-mul, one-mul, mul-zero, zero-div, mod-lt, mul-mod-left, mul-div-cancel, add-zero, zero-add, suc-add, add-comm, pow-suc, div-lt-iff-lt-mul}
@@ -7,7 +7,7 @@ use lib.Dec.{lit<}
 use lib.Bits.{bitXor, xor-comm, xor-assoc, xor-self, xor-zero-r, xor-block, xor-shr, xor-mod}
 use Rattle.galois.specs.Binary.{shift, product, shifts}
 
--- ---- a bit times a number
+-- a bit times a number
 
 pub two-pos : 0 < 2
 two-pos = lit< tt
@@ -77,7 +77,7 @@ module _ (n P : ℕ) where
   shifts-shifts zero k y = ap (λ (m : ℕ). shifts n P m y) (sym (zero-add k))
   shifts-shifts (suc j) k y = ap (shift n P) (shifts-shifts j k y) ∙ ap (λ (m : ℕ). shifts n P m y) (sym (suc-add j k))
 
-  -- ---- the product
+  -- the product
 
   pub product-zero : (m y : ℕ) → product n P m 0 y ≡ 0
   unfolding product

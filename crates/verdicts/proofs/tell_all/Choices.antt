@@ -3,5 +3,5 @@ use lib.ListN.{length}
 use Rattle.verdicts.proofs.tell_all.Given as given
 
 -- an array that the loop writes keeps its length
-abbrev pub Inv-loop-ordinal : given.InvT-loop-ordinal
-Inv-loop-ordinal g l = length (l .block) ≡ 224
+abbrev pub Inv-loop : given.InvT-loop
+Inv-loop g l = length (l .piece) ≡ 14336

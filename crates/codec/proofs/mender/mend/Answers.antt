@@ -16,7 +16,7 @@ returns-then-all-zero g c =
     let w = c .args .word .now in
     let short : length w ≤ K .order = omega (arith, c .if-n-order .left, c .order .ensures) in
     mended K (m .laws) w w (Some (c .none .result)) (
-      told-clean K (m .laws) w (c .if-n-lt5 .left) short (c .syndromes-of-s .result) (c .syndromes-of-s .ensures) (c .all-zero .ensures .yes (c .if-all-zero .taken)),
+      told-clean K (m .laws) w (c .if-n-lt-SHORTEST .left) short (c .syndromes-of-s .result) (c .syndromes-of-s .ensures) (c .all-zero .ensures .yes (c .if-all-zero .taken)),
       names-none (c .none .result) (c .none .ensures .0) ∙ sym (differing-none K (m .laws) w),
     )
 
@@ -27,11 +27,11 @@ mend-one-requires g c κs =
     let w = c .args .word .now in
     let short : length w ≤ K .order = omega (arith, c .if-n-order .left, c .order .ensures) in
     record {
-      long = c .if-n-lt5 .left;
+      long = c .if-n-lt-SHORTEST .left;
       short = short;
       told = c .syndromes-of-s .ensures;
       unclean = c .all-zero .ensures .no (c .if-all-zero .left);
-      singular = sym (told-determinant K (m .laws) w (c .if-n-lt5 .left) short (c .syndromes-of-s .result) (c .syndromes-of-s .ensures) _ (c .quadratic-of-t .ensures .square)) ∙ c .is-zero .ensures .yes (c .if-is-zero .taken);
+      singular = sym (told-determinant K (m .laws) w (c .if-n-lt-SHORTEST .left) short (c .syndromes-of-s .result) (c .syndromes-of-s .ensures) _ (c .quadratic-of-t .ensures .square)) ∙ c .is-zero .ensures .yes (c .if-is-zero .taken);
     }
 
 pub mend-two-requires : need.mend-two-requires
@@ -41,11 +41,11 @@ mend-two-requires g c κs =
     let w = c .args .word .now in
     let short : length w ≤ K .order = omega (arith, c .if-n-order .left, c .order .ensures) in
     record {
-      long = c .if-n-lt5 .left;
+      long = c .if-n-lt-SHORTEST .left;
       short = short;
       told = c .syndromes-of-s .ensures;
-      regular = λ e. c .is-zero .ensures .no (c .if-is-zero .left) (told-determinant K (m .laws) w (c .if-n-lt5 .left) short (c .syndromes-of-s .result) (c .syndromes-of-s .ensures) _ (c .quadratic-of-t .ensures .square) ∙ e);
-      shape = told-quadratic K (m .laws) w (c .if-n-lt5 .left) short (c .syndromes-of-s .result) (c .syndromes-of-s .ensures) (c .quadratic-of-t .result) (c .quadratic-of-t .ensures .square) (c .quadratic-of-t .ensures .linear) (c .quadratic-of-t .ensures .constant);
+      regular = λ e. c .is-zero .ensures .no (c .if-is-zero .left) (told-determinant K (m .laws) w (c .if-n-lt-SHORTEST .left) short (c .syndromes-of-s .result) (c .syndromes-of-s .ensures) _ (c .quadratic-of-t .ensures .square) ∙ e);
+      shape = told-quadratic K (m .laws) w (c .if-n-lt-SHORTEST .left) short (c .syndromes-of-s .result) (c .syndromes-of-s .ensures) (c .quadratic-of-t .result) (c .quadratic-of-t .ensures .square) (c .quadratic-of-t .ensures .linear) (c .quadratic-of-t .ensures .constant);
     }
 
 pub returns-then-is-zero : need.returns-then-is-zero

@@ -1,5 +1,5 @@
 use mathlib.Core.Path.{sym, _∙_}
-use Rattle.galois.proofs.Abstract.{equal, none-of}
+use Rattle.galois.proofs.Abstract.{same-of-sum, sum-of-same}
 use Rattle.galois.proofs.Field.equals.Needs as need
 
 pub returns : need.returns
@@ -9,6 +9,6 @@ returns g c =
     let y = c .args .other in
     let sum = m .sums x y (c .add .result) (c .add .ensures) in
     record {
-      yes = λ t. equal (m .laws) x y (sym sum ∙ c .is-zero .ensures .yes t);
-      no = λ f e. c .is-zero .ensures .no f (sum ∙ none-of (m .laws) x y e);
+      yes = λ t. same-of-sum (m .laws) x y (sym sum ∙ c .is-zero .ensures .yes t);
+      no = λ f e. c .is-zero .ensures .no f (sum ∙ sum-of-same (m .laws) x y e);
     }

@@ -4,12 +4,12 @@ use lib.Dec.{lit<}
 use Rattle.galois.specs.Fields.{of-byte}
 use Rattle.galois.proofs.Elements.{coded256}
 use Rattle.galois.proofs.Galois.{of-logs, shifts-lt}
-use Rattle.galois.proofs.Laws.{of-nothing}
+use Rattle.galois.proofs.Laws.{of-zero}
 use Rattle.galois.proofs.Sound.{sound256}
 use Rattle.galois.proofs.gf256.arithmetic.Gf256Mul.mul.Needs as need
 
 pub returns-then-self-eq0 : need.returns-then-self-eq0
-returns-then-self-eq0 c = c .element .ensures ∙ of-nothing sound256 coded256 (c .args .self) (c .args .rhs) (c .then-self-eq0 .either)
+returns-then-self-eq0 c = c .element .ensures ∙ of-zero sound256 coded256 (c .args .self) (c .args .rhs) (c .then-self-eq0 .either)
 
 pub returns : need.returns
 returns c =

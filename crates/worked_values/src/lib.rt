@@ -1,0 +1,7 @@
+//! Worked values of the code, as tests.
+#[cfg(test)]
+mod code;
+#[cfg(test)]
+mod lines;
+#[cfg(test)]
+mod refusals;
