@@ -73,7 +73,9 @@ fn two_check_bytes_are_mended() -> Result<(), Fail> {
     block[219] = 0x01;
     block[220] = 0x0f;
     block[221] = 0x36;
-    let mends = mend_block(&mut block).ok().ok_or("refused")?;
+    let Ok(mends) = mend_block(&mut block) else {
+        return check(false).note("refused");
+    };
     check_eq(mends.count(), 2)?;
     check_eq(mends.first(), 222)?;
     check_eq(mends.second(), 223)?;
