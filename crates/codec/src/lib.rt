@@ -13,4 +13,6 @@ pub use record::MendRecord;
 pub use record::MendRecordDebug;
 pub use record::MendRecordPartialEq;
 pub use syndromes::Syndromes;
+pub use syndromes::SyndromesDebug;
+pub use syndromes::SyndromesPartialEq;
 pub use syndromes::syndromes_of;

@@ -26,8 +26,8 @@ fn alter<F: Field>(word: &mut [F], place: usize, by: F)
     word[place] = word[place] + by;
 }
 
-// Whether `x` takes the first syndrome to the second, and that to the third.
-fn goes_on<F: Field>(s: Syndromes<F>, x: F) -> bool
+// Whether one error at the locator `x` explains the last three syndromes: each times `x` is the next.
+fn is_sole_locator<F: Field>(s: Syndromes<F>, x: F) -> bool
     ensures yes { λ r. ⌜ (r ≡ true → (field .times (s .s1) x ≡ s .s2) × (field .times (s .s2) x ≡ s .s3)) ⌝ }
     ensures no { λ r. ⌜ (r ≡ false → (field .times (s .s1) x ≡ s .s2) × (field .times (s .s2) x ≡ s .s3) → ⊥) ⌝ }
 {
@@ -74,7 +74,7 @@ fn mend_one<F: Field>(word: &mut [F], s: Syndromes<F>) -> Option<MendRecord>
         constant: s.s1,
     };
     let root = find_root(line, Locator::last(), n)?;
-    if !goes_on(s, root.value) {
+    if !is_sole_locator(s, root.value) {
         return None;
     }
     let place = n - 1 - root.exponent;

@@ -37,7 +37,8 @@ impl<F: Field> Trinomial<F> {
         }
     }
 
-    fn cancel(self) -> bool
+    // Whether the terms add up to zero.
+    fn sum_is_zero(self) -> bool
         ensures yes { λ r. ⌜ (r ≡ true → ((t : _) (x : _) → Terms field t x self → trinomial-at field t x ≡ field .zero)) ⌝ }
         ensures no { λ r. ⌜ (r ≡ false → ((t : _) (x : _) → Terms field t x self → trinomial-at field t x ≡ field .zero → ⊥)) ⌝ }
     {
@@ -93,7 +94,7 @@ pub(crate) fn find_root<F: Field>(
     let mut here = start;
     let mut terms = t.terms_at(start.value);
     for _ in start.exponent..n {
-        if terms.cancel() {
+        if terms.sum_is_zero() {
             return Some(here);
         }
         here = here.next();

@@ -10,6 +10,8 @@ ghost use Rattle.std.specs.Options.{Cases as BySome};
 ghost use Rattle.galois.specs.Field.{Arithmetic, Inverse, Laws};
 ghost use Rattle.galois.specs.Roots.{Leaves};
 pub use cubic::Cubic;
+pub use cubic::CubicDebug;
+pub use cubic::CubicPartialEq;
 pub use gf16::Gf16;
 pub use gf16::Gf16Add;
 pub use gf16::Gf16Debug;

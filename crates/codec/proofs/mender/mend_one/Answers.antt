@@ -25,13 +25,13 @@ returns-in-Break-root g c =
           (c .zero .result) (c .zero .ensures) (λ k l h e. c .in-Break-root .ensures tt k (omega (arith, c .last .ensures .exponent)) h e),
     )
 
-pub returns-then-not-goes-on : need.returns-then-not-goes-on
-returns-then-not-goes-on g c =
+pub returns-then-not-is-sole-locator : need.returns-then-not-is-sole-locator
+returns-then-not-is-sole-locator g c =
     let m = g .F·Field·met in
     let found = c .in-Continue-root .ensures tt in (
       refl,
       one-wrong (g .F·Field .field) (m .laws) (c .args .word .now) (c .pre .long) (c .pre .short) (c .args .s) (c .pre .told) (c .pre .unclean) (c .pre .singular)
-          (c .zero .result) _ (c .zero .ensures) (found .root) (c .goes-on .ensures .no (c .if-not-goes-on .taken)),
+          (c .zero .result) _ (c .zero .ensures) (found .root) (c .is-sole-locator .ensures .no (c .if-not-is-sole-locator .taken)),
     )
 
 pub returns : need.returns
@@ -43,7 +43,7 @@ returns g c =
     let e = c .in-Continue-root .root .exponent in
     let p = length w - 1 - e in
     let found = c .in-Continue-root .ensures tt in
-    let steps = c .goes-on .ensures .yes (c .if-not-goes-on .left) in
+    let steps = c .is-sole-locator .ensures .yes (c .if-not-is-sole-locator .left) in
     let nonzero = c .is-zero .ensures .no (c .if-is-zero .left) in
     let inside : length w - 1 - e < length w = omega (arith, found .below) in
     let near = one-right K (m .laws) w (c .pre .long) (c .pre .short) s (c .pre .told) (c .zero .result) (c .in-Continue-root .root .value) e

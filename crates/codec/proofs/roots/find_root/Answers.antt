@@ -23,20 +23,20 @@ loop-again g c =
             subst (λ x. Terms K t x (c .next-terms-terms .result)) (sym (c .next-here .ensures .value)) (c .next-terms-terms .ensures t (here .value) (before .0)),
             λ k l h e. below-more (λ k. c .args .start .exponent ≤ k → trinomial-at K t (power K (K .alpha) k) ≡ K .zero → ⊥) (here .exponent)
                 (λ k h l e. before .1 k l h e)
-                (λ l e. c .cancel .ensures .no (c .if-cancel .left) t (here .value) (before .0) (ap (trinomial-at K t) (c .loop .inv .1) ∙ e))
+                (λ l e. c .sum-is-zero .ensures .no (c .if-sum-is-zero .left) t (here .value) (before .0) (ap (trinomial-at K t) (c .loop .inv .1) ∙ e))
                 k (omega (arith, c .next-here .ensures .exponent)) l e,
           ),
     )
 
-pub returns-then-cancel : need.returns-then-cancel
-returns-then-cancel g c =
+pub returns-then-sum-is-zero : need.returns-then-sum-is-zero
+returns-then-sum-is-zero g c =
     let K = g .F·Field .field in
     let found = c .loop .inv .2 (c .args .t) (c .terms-at-terms .ensures) in
     record {
       from = omega (arith, c .loop .inv .0, c .loop .kept .counter);
       below = omega (arith, c .loop .inv .0, c .loop-test .taken);
       is = c .loop .inv .1;
-      root = c .cancel .ensures .yes (c .if-cancel .taken) (c .args .t) (c .loop .here .value) (found .0);
+      root = c .sum-is-zero .ensures .yes (c .if-sum-is-zero .taken) (c .args .t) (c .loop .here .value) (found .0);
       first = found .1;
     }
 
