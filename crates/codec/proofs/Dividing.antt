@@ -5,7 +5,7 @@ use Prim.Native.Nat as N
 use Prim.Native.Nat.{ℕ, _<_, _≤_}
 use native.Mathlib.Omega.{arith}
 use lib.ListN.{length, take, getD, length-append}
-use Rattle.std.proofs.shelf.Lists.{take-more, reverse-append}
+use Rattle.std.proofs.shelf.Lists.{append-cancel-left, reverse-append}
 use Rattle.galois.specs.Field.{Arithmetic, Laws, power}
 use Rattle.galois.specs.Roots.{cubic-at, Leaves}
 use Rattle.galois.specs.declared.cubic.Cubic.{Cubic}
@@ -102,10 +102,6 @@ module _ {F : Type 0} (K : Arithmetic F) (laws : Laws K) where
   distance-most (a ∷ u) [] e = absurd (omega arith)
   distance-most (a ∷ u) (b ∷ v) e = omega (arith, distance-cons K laws a b u v, differ-most a b, distance-most u v (omega arith))
 
-  after-same : (w u v : List F) → w ++ u ≡ w ++ v → u ≡ v
-  after-same [] u v e = e
-  after-same (x ∷ w) u v e = after-same w u v (cc)
-
   pub checks : (w : List F) (r : Cubic F) → Data-length K (length w) → Remains K (w ++ (𝟘 ∷ 𝟘 ∷ 𝟘 ∷ 𝟘 ∷ [])) r → Checks K w r
   checks w r size remains = record { coded = is; only = alone }
     where
@@ -121,6 +117,6 @@ module _ {F : Type 0} (K : Arithmetic F) (laws : Laws K) where
       alone : (s : List F) → Coded K n (w ++ s) → s ≡ symbols r
       alone s coded =
           let four : length s ≡ 4 = omega (arith, length-append w s, coded .size) in
-          after-same w s (symbols r) (same-syndromes K laws n long (w ++ s) (w ++ symbols r) (coded .size) (is .size) (size .fits)
+          append-cancel-left w s (symbols r) (same-syndromes K laws n long (w ++ s) (w ++ symbols r) (coded .size) (is .size) (size .fits)
           (omega (arith, distance-after w s (symbols r), distance-most s (symbols r) four))
           (λ k h. coded-by-syndromes K laws n long (size .fits) (w ++ s) (coded .size) .0 coded k h ∙ sym (zero-syndromes w r remains k h)))

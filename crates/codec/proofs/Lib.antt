@@ -1,4 +1,3 @@
-pub mod Lists
 pub mod Dividing
 pub mod Changes
 pub mod Deciding

@@ -1,4 +1,5 @@
--- The logarithms to the base two in the two fields, with 0 at 0, and the powers of two, shift round.
+-- The tables of the code, as lists: logarithms to the base alpha, with 0 at 0; powers of alpha, twice round; and products with the
+-- generator's coefficients.
 use mathlib.Core.List.{List, [], _∷_}
 use Prim.Native.Nat.{ℕ}
 
