@@ -1,5 +1,5 @@
 -- From what one attempt did to what mending means: only one coded word is within two, and only one record names its places.
-use mathlib.Core.Path.{_≡_, refl, sym, ap, _∙_, subst}
+use mathlib.Core.Path.{_≡_, refl, sym, ap, _∙_}
 use mathlib.Core.HLevel.{isProp→PathP}
 use mathlib.Core.List.{List, [], _∷_}
 use Prim.Native.Nat.{ℕ, zero, suc, _≤_, _<_}
@@ -12,7 +12,7 @@ use Rattle.galois.specs.Field.{Arithmetic, Laws}
 use Rattle.reed_solomon.specs.Code.{differing}
 use Rattle.reed_solomon.proofs.Distance.{one-within-two}
 use Rattle.codec.specs.declared.record.MendRecord.{MendRecord, agree-type}
-use Rattle.codec.specs.Mend.{places, Within-two, Records, Mended, Mended-one-way}
+use Rattle.codec.specs.Mend.{places, Within-two, Mended, Mended-one-way}
 use Rattle.codec.specs.Steps.{Attempt}
 
 no-record : (r : Option MendRecord) (m : MendRecord) → r ≡ None → r ≡ Some m → ⊥

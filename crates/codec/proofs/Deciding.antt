@@ -8,7 +8,7 @@ use native.Mathlib.Decide.{decLt}
 use native.Mathlib.Omega.{arith}
 use lib.ListN.{length}
 use Rattle.galois.specs.Field.{Arithmetic, Laws, power}
-use Rattle.reed_solomon.specs.Code.{distance, syndrome, Coded}
+use Rattle.reed_solomon.specs.Code.{distance, syndrome}
 use Rattle.reed_solomon.specs.Errors.{altered, locator, determinant, quadratic}
 use Rattle.reed_solomon.proofs.Ring.{ring, plus-cancel, times-both}
 use Rattle.reed_solomon.proofs.Clauses.{powers, power-suc, power-1}

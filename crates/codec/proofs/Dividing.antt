@@ -4,10 +4,10 @@ use mathlib.Core.List.{List, [], _∷_, _++_, reverse, append-assoc}
 use Prim.Native.Nat as N
 use Prim.Native.Nat.{ℕ, _<_, _≤_}
 use native.Mathlib.Omega.{arith}
-use lib.ListN.{length, take, getD, length-append}
+use lib.ListN.{length, length-append}
 use Rattle.std.proofs.shelf.Lists.{append-cancel-left, reverse-append}
 use Rattle.galois.specs.Field.{Arithmetic, Laws, power}
-use Rattle.galois.specs.Roots.{cubic-at, Leaves}
+use Rattle.galois.specs.Roots.{cubic-at}
 use Rattle.galois.specs.declared.cubic.Cubic.{Cubic}
 use Rattle.reed_solomon.specs.Polynomial.{value}
 use Rattle.reed_solomon.specs.Code.{distance, Coded, syndrome}

@@ -5,7 +5,7 @@ use Prim.Native.Nat.{ℕ, _≤_}
 use lib.ListN.{length, take}
 use Rattle.std.specs.declared.option.Option.{Option}
 use Rattle.std.specs.declared.option.Option.the-variants.{None, Some}
-use Rattle.galois.specs.Field.{Arithmetic, Laws}
+use Rattle.galois.specs.Field.{Arithmetic}
 use Rattle.reed_solomon.specs.Code.{Coded, differing, distance}
 use Rattle.codec.specs.declared.record.MendRecord.{MendRecord}
 

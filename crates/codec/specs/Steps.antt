@@ -1,6 +1,6 @@
 -- What the steps between a word and its mending tell each other.
 use mathlib.Core.Path.{_≡_}
-use mathlib.Core.List.{List, reverse}
+use mathlib.Core.List.{List}
 use Prim.Native.Nat.{ℕ, _<_, _≤_}
 use Rattle.galois.specs.Field.{Arithmetic, power}
 use Rattle.galois.specs.Roots.{cubic-at}

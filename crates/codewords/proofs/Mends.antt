@@ -1,7 +1,7 @@
 -- From mending symbols to mending bytes.
 use mathlib.Core.Path.{_≡_, refl, sym, ap, _∙_, subst}
 use mathlib.Core.Logic.{_⊎_, inl, inr}
-use mathlib.Core.List.{List, [], _∷_, map}
+use mathlib.Core.List.{List, map}
 use Prim.Native.Nat.{ℕ, zero, suc, _<_, _≤_}
 use native.Mathlib.Decide.{ℕ-discrete, decLt}
 use native.Mathlib.Omega.{arith}
@@ -21,7 +21,7 @@ use Rattle.denial.specs.Denials.{denied}
 use Rattle.denial.specs.declared.Denial.{Denial}
 use Rattle.denial.specs.declared.Reason.the-variants.{Wide, Length, Lost}
 use Rattle.denial.specs.declared.Layer.the-variants.{Code}
-use Rattle.codewords.specs.Bytes.{Refused, Within-two-bytes, All-numbers, First-wide, Mended-bytes, Mended-bytes-one-way, differing-bytes}
+use Rattle.codewords.specs.Bytes.{Within-two-bytes, All-numbers, First-wide, Mended-bytes, Mended-bytes-one-way, differing-bytes}
 use Rattle.codewords.proofs.Numbers.{differing-numbers, front-below}
 
 none-some : (m : MendRecord) → _≡_ {A = Option MendRecord} None (Some m) → _≡_ {A = ℕ} 0 1

@@ -7,7 +7,7 @@ use native.Mathlib.Omega.{arith}
 use lib.ListN.{length, getD, take, set}
 use Rattle.std.proofs.shelf.Lists.{take-more, take-more-set, map-push, getD-take, getD-map, length-take-le}
 use Rattle.galois.specs.Field.{Arithmetic, Laws}
-use Rattle.reed_solomon.specs.Code.{differing-from, differing}
+use Rattle.reed_solomon.specs.Code.{differing-from}
 
 module _ {X : Type 0} (f : X → ℕ) where
   -- one symbol more is read, or written

@@ -1,6 +1,6 @@
 -- Verdicts, from what mending a copy answered.
 use mathlib.Core.Path.{_≡_, refl, sym, ap, _∙_}
-use mathlib.Core.List.{List, [], _∷_}
+use mathlib.Core.List.{List}
 use Prim.Native.Nat.{ℕ}
 use native.Mathlib.Decide.{ℕ-discrete}
 use native.Mathlib.Omega.{arith}
@@ -11,8 +11,8 @@ use Rattle.galois.specs.Fields.{gf256}
 use Rattle.codec.specs.Mend.{places}
 use Rattle.codec.specs.declared.record.MendRecord.{MendRecord}
 use Rattle.denial.specs.declared.Denial.{Denial}
-use Rattle.codewords.specs.Bytes.{All-numbers, Mended-bytes, differing-bytes}
-use Rattle.codewords.specs.Verdicts.{Judged, Judged-one-way, Mends-to, by-places}
+use Rattle.codewords.specs.Bytes.{All-numbers, Mended-bytes}
+use Rattle.codewords.specs.Verdicts.{Judged, Judged-one-way, by-places}
 use Rattle.codewords.specs.declared.verdict.Verdict.{Verdict}
 use Rattle.codewords.specs.declared.verdict.Verdict.the-variants.{Clean, MendedOne, MendedTwo, Lost, Short}
 use Rattle.codewords.proofs.Mends.{not-both}

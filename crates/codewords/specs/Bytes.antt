@@ -5,8 +5,8 @@ use Prim.Native.Nat.{ℕ, _<_, _≤_}
 use lib.ListN.{length, getD}
 use Rattle.std.specs.declared.result.Result.{Result}
 use Rattle.std.specs.declared.result.Result.the-variants.{Ok, Err}
-use Rattle.galois.specs.Field.{Arithmetic, Laws}
-use Rattle.reed_solomon.specs.Code.{Coded, differing, distance}
+use Rattle.galois.specs.Field.{Arithmetic}
+use Rattle.reed_solomon.specs.Code.{Coded, differing}
 use Rattle.codec.specs.Mend.{places}
 use Rattle.codec.specs.declared.record.MendRecord.{MendRecord}
 use Rattle.denial.specs.Denials.{denied}

@@ -1,5 +1,5 @@
 -- The elements of the two fields, and the laws of both.
-use mathlib.Core.Path.{_≡_, refl, sym, ap, subst, _∙_}
+use mathlib.Core.Path.{_≡_, refl, subst}
 use mathlib.Core.HLevel.{isProp→PathP}
 use Prim.Native.Nat.{ℕ, _+_, _-_, _*_, _%_, _≤_, _<_}
 use native.Mathlib.Bridge.{le-prop}
@@ -12,9 +12,9 @@ use Rattle.galois.specs.Field.{Laws}
 use Rattle.galois.specs.Fields.{of-byte, of-digit, gf256, gf16}
 use Rattle.galois.specs.declared.gf256.Gf256.{Gf256}
 use Rattle.galois.specs.declared.gf16.Gf16.{Gf16}
-use Rattle.galois.specs.Binary.{shift, product, shifts}
+use Rattle.galois.specs.Binary.{shift, shifts}
 use Rattle.galois.proofs.Galois.{each, both, at}
-use Rattle.galois.proofs.Laws.{Coded, laws, alpha-bits}
+use Rattle.galois.proofs.Laws.{Coded, laws}
 use Rattle.galois.proofs.Tables.{powers256, powers16}
 use Rattle.galois.proofs.Sound.{sound256, sound16}
 

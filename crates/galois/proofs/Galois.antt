@@ -1,14 +1,12 @@
 -- The laws of a field of 2 ^ (n + 1) elements, from one test over its elements that antt computes.
 use mathlib.Core.Path.{_≡_, refl, sym, ap, ap₂, _∙_, subst}
-use mathlib.Core.Bool.{Bool, true, false, _||_, _&&_}
-use mathlib.Core.List.{List, [], _∷_}
+use mathlib.Core.Bool.{Bool, true, false}
 use Prim.Native.Nat.{ℕ, zero, suc, _+_, _-_, _*_, _/_, _%_, _^_, _≤_, _<_}
 use native.Mathlib.Nat.{zero-mul, one-mul, add-comm, add-sub-of-le}
 use native.Mathlib.Decide.{ℕ-discrete}
 use native.Mathlib.Omega.{arith}
-use lib.Dec.{T, eqb, ltb, eqb→eq, ltb→lt, lit<}
-use lib.ListN.{getD}
-use lib.Bits.{bitXor, xor-comm, xor-assoc, xor-self, xor-zero-r}
+use lib.Dec.{T, eqb, ltb, eqb→eq, ltb→lt}
+use lib.Bits.{bitXor, xor-zero-r}
 use Rattle.galois.specs.Binary.{shift, product, shifts}
 use Rattle.galois.proofs.Linear as linear
 

@@ -1,12 +1,12 @@
 -- The laws of a field, carried over from the numbers that stand for its elements.
 use mathlib.Core.Path.{_≡_, refl, sym, ap, ap₂, _∙_, subst}
 use mathlib.Core.Logic.{_⊎_, inl, inr}
-use Prim.Native.Nat.{ℕ, zero, suc, _-_, _%_, _^_, _≤_, _<_}
+use Prim.Native.Nat.{ℕ, zero, suc, _-_, _%_, _^_, _<_}
 use native.Mathlib.Nat.{mod-eq-of-lt}
 use native.Mathlib.Omega.{arith}
 use lib.Bits.{bitXor, xor-comm, xor-assoc, xor-self, xor-lt}
 use Rattle.galois.specs.Binary.{shift, product, shifts}
-use Rattle.galois.specs.Field.{Arithmetic, Laws, power}
+use Rattle.galois.specs.Field.{Laws, power}
 use Rattle.galois.specs.Fields.{binary-field}
 use Rattle.galois.proofs.Galois as field
 use Rattle.galois.proofs.Galois.{Sound}

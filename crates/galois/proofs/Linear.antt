@@ -1,7 +1,7 @@
 -- Shifts and the product are additive, for every degree and every polynomial.
-use mathlib.Core.Path.{_≡_, refl, sym, ap, ap₂, _∙_, subst}
-use Prim.Native.Nat.{ℕ, zero, suc, _+_, _*_, _/_, _%_, _^_, _≤_, _<_}
-use native.Mathlib.Nat.{zero-mul, one-mul, mul-zero, zero-div, mod-lt, mul-mod-left, mul-div-cancel, add-zero, zero-add, suc-add, add-comm, pow-suc, div-lt-iff-lt-mul}
+use mathlib.Core.Path.{_≡_, refl, sym, ap, ap₂, _∙_}
+use Prim.Native.Nat.{ℕ, zero, suc, _+_, _*_, _/_, _%_, _^_, _<_}
+use native.Mathlib.Nat.{zero-mul, one-mul, zero-div, mod-lt, mul-mod-left, mul-div-cancel, add-zero, zero-add, suc-add, pow-suc, div-lt-iff-lt-mul}
 use native.Mathlib.Omega.{arith}
 use lib.Dec.{lit<}
 use lib.Bits.{bitXor, xor-comm, xor-assoc, xor-self, xor-zero-r, xor-block, xor-shr, xor-mod}

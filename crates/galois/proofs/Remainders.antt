@@ -1,7 +1,7 @@
 -- What division by the generator leaves of each element times X⁴, by one computed test over each field.
 use mathlib.Core.Path.{_≡_, sym, ap, _∙_}
 use mathlib.Core.Bool.{Bool}
-use Prim.Native.Nat.{ℕ, _<_}
+use Prim.Native.Nat.{ℕ}
 use native.Mathlib.Nat.{mod-eq-of-lt}
 use lib.Dec.{T, eqb, eqb→eq}
 use lib.ListN.{getD}

@@ -1,7 +1,7 @@
 -- The two fields pass the test.
-use mathlib.Core.Path.{_≡_, refl}
+use mathlib.Core.Path.{refl}
 use Prim.Native.Nat.{ℕ}
-use lib.Dec.{T, lit<}
+use lib.Dec.{lit<}
 use lib.ListN.{getD}
 use Rattle.galois.specs.Binary.{shift, product, shifts}
 use Rattle.galois.proofs.Galois.{Sound, each, both}

@@ -1,13 +1,13 @@
 -- A word differs from at most one coded word in at most two places.
-use mathlib.Core.Path.{_≡_, refl, sym, _∙_, ap}
-use mathlib.Core.Logic.{_⊎_, inl, inr}
+use mathlib.Core.Path.{_≡_, sym, _∙_, ap}
+use mathlib.Core.Logic.{inl, inr}
 use mathlib.Core.List.{List, [], _∷_}
 use Prim.Native.Nat as N
-use Prim.Native.Nat.{ℕ, suc, _+_, _<_, _≤_}
+use Prim.Native.Nat.{ℕ, _+_, _<_, _≤_}
 use native.Mathlib.Omega.{arith}
 use lib.ListN.{length}
-use Rattle.galois.specs.Field.{Arithmetic, Laws, power}
-use Rattle.reed_solomon.specs.Code.{distance, Coded, syndrome, One-within-two}
+use Rattle.galois.specs.Field.{Arithmetic, Laws}
+use Rattle.reed_solomon.specs.Code.{distance, syndrome, One-within-two}
 use Rattle.reed_solomon.proofs.Moments.{differ, nil-distance, moment-value, plain, differ-cases, distance-cons, agree}
 use Rattle.reed_solomon.proofs.Ring.{times-one, times-zero}
 use Rattle.reed_solomon.proofs.Syndromes.{coded-syndrome}

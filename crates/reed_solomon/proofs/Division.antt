@@ -1,13 +1,13 @@
 -- Division by a linear factor.
-use mathlib.Core.Path.{_≡_, refl, sym, _∙_, ap, ap₂}
+use mathlib.Core.Path.{_≡_, refl, sym, _∙_, ap}
 use mathlib.Core.List.{List, [], _∷_}
 use Prim.Native.Nat as N
-use Prim.Native.Nat.{ℕ, suc, _<_, _≤_}
+use Prim.Native.Nat.{suc, _≤_}
 use native.Mathlib.Omega.{arith}
 use lib.ListN.{length}
-use Rattle.galois.specs.Field.{Arithmetic, Laws, power}
-use Rattle.reed_solomon.specs.Polynomial.{sum, scaled, product, value, linear}
-use Rattle.reed_solomon.proofs.Ring.{ring, zero-times, plus-cancel, times-nonzero, times-both}
+use Rattle.galois.specs.Field.{Arithmetic, Laws}
+use Rattle.reed_solomon.specs.Polynomial.{product, value, linear}
+use Rattle.reed_solomon.proofs.Ring.{ring, zero-times, plus-cancel, times-both}
 use Rattle.reed_solomon.proofs.Clauses.{clauses, product-cons, value-cons}
 use Rattle.reed_solomon.proofs.Values.{value-product, value-linear}
 

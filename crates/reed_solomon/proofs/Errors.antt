@@ -1,17 +1,16 @@
 -- What the syndromes say of a word with one error or two.
-use mathlib.Core.Path.{_≡_, refl, sym, _∙_, ap, ap₂}
+use mathlib.Core.Path.{_≡_, refl, sym, _∙_, ap}
 use mathlib.Core.Logic.{_⊎_, inl, inr, _↔_}
 use mathlib.Core.List.{List, [], _∷_}
 use Prim.Native.Nat as N
 use Prim.Native.Nat.{ℕ, zero, suc, _-_, _<_, _≤_}
 use native.Mathlib.Omega.{arith}
-use lib.ListN.{length, getD, set, length-set}
+use lib.ListN.{length, length-set}
 use Rattle.galois.specs.Field.{Arithmetic, Laws, power}
-use Rattle.reed_solomon.specs.Polynomial.{value}
 use Rattle.reed_solomon.specs.Code.{Coded, syndrome}
 use Rattle.reed_solomon.specs.Errors.{altered, locator, determinant, quadratic}
 use Rattle.reed_solomon.proofs.Ring.{ring, same, plus-cancel, times-nonzero, zero-plus}
-use Rattle.reed_solomon.proofs.Clauses.{clauses, powers}
+use Rattle.reed_solomon.proofs.Clauses.{powers}
 use Rattle.reed_solomon.proofs.Moments.{moment, plain, plain-is, place, moment-cons, moment-value}
 use Rattle.reed_solomon.proofs.Syndromes.{coded-syndrome}
 

@@ -1,12 +1,12 @@
 -- A word whose four syndromes are zero is coded: one linear factor is divided out after the other.
-use mathlib.Core.Path.{_≡_, refl, sym, _∙_, ap}
-use mathlib.Core.List.{List, [], _∷_, reverse}
-use Prim.Native.Nat.{ℕ, suc, _<_, _≤_}
+use mathlib.Core.Path.{_≡_, sym, _∙_, ap}
+use mathlib.Core.List.{List, reverse}
+use Prim.Native.Nat.{ℕ, _<_, _≤_}
 use native.Mathlib.Omega.{arith}
 use lib.ListN.{length, length-reverse}
 use Rattle.galois.specs.Field.{Arithmetic, Laws, power}
 use Rattle.reed_solomon.specs.Polynomial.{product, value, linear}
-use Rattle.reed_solomon.specs.Code.{generator, Coded, syndrome, Coded-by-syndromes}
+use Rattle.reed_solomon.specs.Code.{generator, syndrome, Coded-by-syndromes}
 use Rattle.reed_solomon.proofs.Products.{product-assoc, Nonempty, nonempty-product, nonempty-linear}
 use Rattle.reed_solomon.proofs.Division.{Divided, divided}
 use Rattle.reed_solomon.proofs.Syndromes.{coded-syndrome}

@@ -1,6 +1,6 @@
 -- The places in which two words differ, one or two of them.
 use mathlib.Core.Path.{_≡_, refl, sym, _∙_, ap, ap₂, subst}
-use mathlib.Core.Logic.{_⊎_, inl, inr}
+use mathlib.Core.Logic.{inl, inr}
 use mathlib.Core.List.{List, [], _∷_}
 use Prim.Native.Nat as N
 use Prim.Native.Nat.{ℕ, zero, suc, _<_, _≤_}

@@ -1,10 +1,10 @@
 -- The product with a linear factor on the right is associative.
-use mathlib.Core.Path.{_≡_, refl, sym, _∙_, ap, ap₂}
+use mathlib.Core.Path.{_≡_, sym, _∙_, ap, ap₂}
 use mathlib.Core.List.{List, [], _∷_}
 use Rattle.galois.specs.Field.{Arithmetic, Laws}
 use Rattle.reed_solomon.specs.Polynomial.{sum, scaled, product, linear}
 use Rattle.reed_solomon.proofs.Ring.{ring}
-use Rattle.reed_solomon.proofs.Clauses.{clauses, sum-nil, sum-cons, scaled-nil, scaled-cons, product-nil, product-cons, linear-is}
+use Rattle.reed_solomon.proofs.Clauses.{clauses, sum-nil, sum-cons, scaled-cons, product-nil, product-cons, linear-is}
 
 module _ {F : Type 0} (K : Arithmetic F) (laws : Laws K) where
   open Arithmetic K using (zero as 𝟘, one as 𝟙, plus as _+_, times as _*_)

@@ -1,5 +1,5 @@
 -- Identities over a field of characteristic 2.
-use mathlib.Core.Path.{_≡_, refl, sym, _∙_, ap}
+use mathlib.Core.Path.{_≡_, sym, _∙_, ap}
 use native.Mathlib.Decide.{ℕ-discrete}
 use Rattle.galois.specs.Field.{Arithmetic, Laws}
 

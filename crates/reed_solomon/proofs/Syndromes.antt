@@ -1,10 +1,10 @@
 -- The syndromes of a coded word are zero.
-use mathlib.Core.Path.{_≡_, refl, sym, _∙_, ap}
-use mathlib.Core.List.{List, reverse}
+use mathlib.Core.Path.{_≡_}
+use mathlib.Core.List.{List}
 use Prim.Native.Nat.{ℕ, zero, suc, _<_}
 use native.Mathlib.Omega.{arith}
 use Rattle.galois.specs.Field.{Arithmetic, Laws, power}
-use Rattle.reed_solomon.specs.Polynomial.{product, value, linear}
+use Rattle.reed_solomon.specs.Polynomial.{value}
 use Rattle.reed_solomon.specs.Code.{generator, Coded, syndrome}
 use Rattle.reed_solomon.proofs.Ring.{ring}
 use Rattle.reed_solomon.proofs.Values.{value-product, value-linear}

@@ -1,4 +1,4 @@
-use mathlib.Core.Path.{_≡_, ap, _∙_}
+use mathlib.Core.Path.{ap, _∙_}
 use lib.ListN.{set}
 use Rattle.reed_solomon.specs.Errors.{altered}
 use Rattle.std.proofs.shelf.Lists.{getD-default}

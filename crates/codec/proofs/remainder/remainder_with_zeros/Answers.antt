@@ -1,4 +1,4 @@
-use mathlib.Core.Path.{_≡_, sym, _∙_, subst}
+use mathlib.Core.Path.{sym, _∙_, subst}
 use mathlib.Core.List.{[], _∷_, _++_}
 use Rattle.codec.specs.Steps.{Remains}
 use Rattle.codec.proofs.Dividing.{remains-four}

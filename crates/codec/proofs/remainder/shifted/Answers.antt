@@ -1,4 +1,4 @@
-use mathlib.Core.Path.{_≡_, refl, sym, ap, _∙_}
+use mathlib.Core.Path.{sym, _∙_}
 use Rattle.galois.specs.Field.{power}
 use Rattle.galois.specs.Roots.{cubic-at}
 use Rattle.codec.proofs.Dividing.{carried, syndrome-push}

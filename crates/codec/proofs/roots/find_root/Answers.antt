@@ -1,9 +1,9 @@
 use mathlib.Core.Path.{_≡_, refl, sym, ap, _∙_, subst}
-use Prim.Native.Nat.{ℕ, _≤_, _<_}
+use Prim.Native.Nat.{_≤_}
 use native.Mathlib.Omega.{arith}
 use borrow.Author.Count.{below-more}
 use Rattle.galois.specs.Field.{power}
-use Rattle.codec.specs.Steps.{Terms, No-root, trinomial-at}
+use Rattle.codec.specs.Steps.{Terms, trinomial-at}
 use Rattle.codec.proofs.roots.find_root.Needs as need
 
 pub loop-holds : need.loop-holds

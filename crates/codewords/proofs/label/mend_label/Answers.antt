@@ -1,5 +1,4 @@
-use mathlib.Core.Path.{_≡_, sym, subst}
-use lib.ListN.{length}
+use mathlib.Core.Path.{sym, subst}
 use Rattle.std.specs.declared.result.Result.the-variants.{Err}
 use Rattle.galois.specs.Fields.{gf16}
 use Rattle.codewords.specs.Bytes.{Mended-bytes}

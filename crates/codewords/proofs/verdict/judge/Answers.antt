@@ -1,4 +1,4 @@
-use mathlib.Core.Path.{_≡_, sym, subst}
+use mathlib.Core.Path.{sym, subst}
 use native.Mathlib.Omega.{arith}
 use Rattle.galois.specs.Fields.{gf256}
 use Rattle.std.specs.declared.result.Result.the-variants.{Ok, Err}

@@ -1,6 +1,5 @@
 use mathlib.Core.Path.{ap}
 use Prim.Native.Nat.{_-_}
-use native.Mathlib.Omega.{arith}
 use lib.Dec.{lit<}
 use Rattle.galois.specs.Fields.{of-digit}
 use Rattle.galois.specs.declared.gf16.Gf16.{Gf16}

@@ -1,11 +1,7 @@
 use mathlib.Core.Path.{ap}
-use Prim.Native.Nat.{_-_}
-use native.Mathlib.Omega.{arith}
-use lib.Dec.{lit<}
 use Rattle.galois.specs.Fields.{of-byte}
 use Rattle.galois.specs.declared.gf256.Gf256.{Gf256}
 use Rattle.galois.proofs.Elements.{same256, coded256}
-use Rattle.galois.proofs.Galois.{shifts-lt}
 use Rattle.galois.proofs.Laws.{of-inverse}
 use Rattle.galois.proofs.Sound.{sound256}
 use Rattle.galois.proofs.gf256.arithmetic.Gf256Field.inverse.Needs as need

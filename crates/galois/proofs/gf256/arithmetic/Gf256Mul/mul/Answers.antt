@@ -1,9 +1,7 @@
 use mathlib.Core.Path.{ap, _∙_}
-use Prim.Native.Nat.{_+_}
-use lib.Dec.{lit<}
 use Rattle.galois.specs.Fields.{of-byte}
 use Rattle.galois.proofs.Elements.{coded256}
-use Rattle.galois.proofs.Galois.{of-logs, shifts-lt}
+use Rattle.galois.proofs.Galois.{of-logs}
 use Rattle.galois.proofs.Laws.{of-zero}
 use Rattle.galois.proofs.Sound.{sound256}
 use Rattle.galois.proofs.gf256.arithmetic.Gf256Mul.mul.Needs as need
