@@ -4,4 +4,6 @@ mod code;
 #[cfg(test)]
 mod lines;
 #[cfg(test)]
+mod places;
+#[cfg(test)]
 mod refusals;
