@@ -9,6 +9,6 @@ returns g c =
     let y = c.args.other in
     let sum = m.sums x y c.add.result c.add.ensures in
     record {
-      yes = λ t. same_of_sum m.laws x y (sym sum ∙ c.is-zero.ensures.yes t);
-      no = λ f e. c.is-zero.ensures.no f (sum ∙ sum_of_same m.laws x y e);
+      yes = λ t. same_of_sum m.laws x y (sym sum ∙ c.is_zero.ensures.yes t);
+      no = λ f e. c.is_zero.ensures.no f (sum ∙ sum_of_same m.laws x y e);
     }
