@@ -1,4 +1,6 @@
 //! Worked values of the carriers, as tests.
+#![tactic(auto)]
+
 #[cfg(test)]
 mod held_lines;
 #[cfg(test)]

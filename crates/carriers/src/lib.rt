@@ -1,4 +1,6 @@
 //! What holds lines: the two traits, and the carriers over memory.
+#![tactic(auto)]
+
 mod capture;
 mod carrier;
 mod lent;

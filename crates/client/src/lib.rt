@@ -1,4 +1,6 @@
 //! A client that makes the calls himself, and comes to the same promise.
+#![tactic(auto)]
+
 ghost use Rattle.std.specs.Prelude.{[], ◌∷◌};
 ghost use Rattle.client.specs.ByHand.{Promised};
 ghost use Rattle.transfer.specs.declared.steps.Step.TheVariants.{Offer, Write};

@@ -7,7 +7,7 @@ use galois::{Cubic, Field};
 /// The only four symbols that make the data, followed by them, a coded word: `k3` stands first. None where the data is empty or
 /// longer than the code allows.
 pub fn check_symbols<F: Field>(symbols: &[F]) -> Option<Cubic<F>>
-    ensures { Checked field symbols.now result }
+    ensures { Checked F.field symbols.now result }
 {
     let n = symbols.len();
     if n < 1 || F::order() < 4 || n > F::order() - 4 {

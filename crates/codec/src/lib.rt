@@ -1,4 +1,6 @@
 //! Check symbols, syndromes and mending for the Reed-Solomon code with four check symbols, in one text for every field.
+#![tactic(auto)]
+
 mod checks;
 mod mender;
 mod record;

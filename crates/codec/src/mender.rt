@@ -15,24 +15,24 @@ const SHORTEST: usize = 5;
 // Adds `by` to the symbol at `place`.
 fn alter<F: Field>(word: &mut [F], place: usize, by: F)
     requires { place < length word.old }
-    ensures { word.new ≡ altered field word.old place by }
+    ensures { word.new ≡ altered F.field word.old place by }
 {
     word[place] = word[place] + by;
 }
 
 // Whether one error at the locator `x` explains the last three syndromes: each times `x` is the next.
 fn is_sole_locator<F: Field>(s: Syndromes<F>, x: F) -> bool
-    ensures yes { result ≡ true → (field.times s.s1 x ≡ s.s2) × (field.times s.s2 x ≡ s.s3) }
-    ensures no { result ≡ false → (field.times s.s1 x ≡ s.s2) × (field.times s.s2 x ≡ s.s3) → ⊥ }
+    ensures yes { result ≡ true → (F.field.times s.s1 x ≡ s.s2) × (F.field.times s.s2 x ≡ s.s3) }
+    ensures no { result ≡ false → (F.field.times s.s1 x ≡ s.s2) × (F.field.times s.s2 x ≡ s.s3) → ⊥ }
 {
     (s.s1 * x).equals(s.s2) && (s.s2 * x).equals(s.s3)
 }
 
 // The quadratic whose roots are the locators of two errors.
 fn quadratic_of<F: Field>(s: Syndromes<F>) -> Trinomial<F>
-    ensures square { result.square ≡ field.plus (field.times s.s0 s.s2) (field.times s.s1 s.s1) }
-    ensures linear { result.linear ≡ field.plus (field.times s.s0 s.s3) (field.times s.s1 s.s2) }
-    ensures constant { result.constant ≡ field.plus (field.times s.s1 s.s3) (field.times s.s2 s.s2) }
+    ensures square { result.square ≡ F.field.plus (F.field.times s.s0 s.s2) (F.field.times s.s1 s.s1) }
+    ensures linear { result.linear ≡ F.field.plus (F.field.times s.s0 s.s3) (F.field.times s.s1 s.s2) }
+    ensures constant { result.constant ≡ F.field.plus (F.field.times s.s1 s.s3) (F.field.times s.s2 s.s2) }
 {
     Trinomial {
         square: s.s0 * s.s2 + s.s1 * s.s1,
@@ -44,7 +44,7 @@ fn quadratic_of<F: Field>(s: Syndromes<F>) -> Trinomial<F>
 // What to add at the place of locator `x`, where `y` is the other's.
 fn error_at<F: Field>(s: Syndromes<F>, x: F, y: F) -> F
     requires { x ≢ y }
-    ensures { field.times result (field.plus x y) ≡ field.plus (field.times s.s0 y) s.s1 }
+    ensures { F.field.times result (F.field.plus x y) ≡ F.field.plus (F.field.times s.s0 y) s.s1 }
 {
     (s.s0 * y + s.s1) * (x + y).inverse()
 }
@@ -52,11 +52,11 @@ fn error_at<F: Field>(s: Syndromes<F>, x: F, y: F) -> F
 // Mends one place: the only one whose locator takes each syndrome to the next.
 fn mend_one<F: Field>(word: &mut [F], s: Syndromes<F>) -> Option<MendRecord>
     requires long { 5 ≤ length word.old }
-    requires short { length word.old ≤ field.order }
-    requires told { s ≡ syndromes field word.old }
-    requires unclean { AllZero field s → ⊥ }
-    requires singular { determinant field word.old ≡ field.zero }
-    ensures { Attempt field word.old word.new result }
+    requires short { length word.old ≤ F.field.order }
+    requires told { s ≡ syndromes F.field word.old }
+    requires unclean { AllZero F.field s → ⊥ }
+    requires singular { determinant F.field word.old ≡ F.field.zero }
+    ensures { Attempt F.field word.old word.new result }
 {
     if s.s0.is_zero() {
         return None;
@@ -79,11 +79,11 @@ fn mend_one<F: Field>(word: &mut [F], s: Syndromes<F>) -> Option<MendRecord>
 // Mends two places: those whose locators are the roots of the quadratic.
 fn mend_two<F: Field>(word: &mut [F], s: Syndromes<F>, t: Trinomial<F>) -> Option<MendRecord>
     requires long { 5 ≤ length word.old }
-    requires short { length word.old ≤ field.order }
-    requires told { s ≡ syndromes field word.old }
-    requires regular { determinant field word.old ≢ field.zero }
-    requires shape { (x : _) → trinomial_at field t x ≡ quadratic field word.old x }
-    ensures { Attempt field word.old word.new result }
+    requires short { length word.old ≤ F.field.order }
+    requires told { s ≡ syndromes F.field word.old }
+    requires regular { determinant F.field word.old ≢ F.field.zero }
+    requires shape { (x : _) → trinomial_at F.field t x ≡ quadratic F.field word.old x }
+    ensures { Attempt F.field word.old word.new result }
 {
     let n = word.len();
     let later = find_root(t, Locator::last(), n)?;
@@ -100,7 +100,7 @@ fn mend_two<F: Field>(word: &mut [F], s: Syndromes<F>, t: Trinomial<F>) -> Optio
 /// Leaves in `word` the coded word that differs from it in at most two symbols, and answers at which places; `None`, and the word as
 /// it was, where there is none.
 pub fn mend<F: Field>(word: &mut [F]) -> Option<MendRecord>
-    ensures { Mended field word.old word.new result }
+    ensures { Mended F.field word.old word.new result }
 {
     let n = word.len();
     if n < SHORTEST || n > F::order() {

@@ -6,7 +6,7 @@ use galois::{Cubic, Field};
 
 // One symbol more: the remainder times X, reduced, plus the symbol.
 fn shifted<F: Field>(r: Cubic<F>, symbol: F) -> Cubic<F>
-    ensures { (w : _) → Remains field w r → Remains field (w ++ (symbol ∷ [])) result }
+    ensures { (w : _) → Remains F.field w r → Remains F.field (w ++ (symbol ∷ [])) result }
 {
     let carried = r.k3.times_x4();
     Cubic {
@@ -19,7 +19,7 @@ fn shifted<F: Field>(r: Cubic<F>, symbol: F) -> Cubic<F>
 
 // What division by the generator leaves of a word.
 pub(crate) fn remainder_of<F: Field>(word: &[F]) -> Cubic<F>
-    ensures { Remains field word.now result }
+    ensures { Remains F.field word.now result }
 {
     let zero = F::zero();
     let mut r = Cubic {
@@ -36,7 +36,7 @@ pub(crate) fn remainder_of<F: Field>(word: &[F]) -> Cubic<F>
 
 // What it leaves of a word with four zero symbols after it.
 pub(crate) fn remainder_with_zeros<F: Field>(word: &[F]) -> Cubic<F>
-    ensures { (z : _) → z ≡ field.zero → Remains field (word.now ++ (z ∷ z ∷ z ∷ z ∷ [])) result }
+    ensures { (z : _) → z ≡ F.field.zero → Remains F.field (word.now ++ (z ∷ z ∷ z ∷ z ∷ [])) result }
 {
     let zero = F::zero();
     let mut r = remainder_of(word);

@@ -15,7 +15,7 @@ pub struct Trinomial<F> {
 impl<F: Field> Trinomial<F> {
     // The three terms of the value at `x`.
     fn terms_at(self, x: F) -> Trinomial<F>
-        ensures { Terms field self x result }
+        ensures { Terms F.field self x result }
     {
         Trinomial {
             square: self.square * (x * x),
@@ -26,7 +26,7 @@ impl<F: Field> Trinomial<F> {
 
     // From the terms of the value at `x` to those at alpha times `x`.
     fn next_terms(self) -> Trinomial<F>
-        ensures { (t : _) (x : _) → Terms field t x self → Terms field t (field.times field.alpha x) result }
+        ensures { (t : _) (x : _) → Terms F.field t x self → Terms F.field t (F.field.times F.field.alpha x) result }
     {
         Trinomial {
             square: self.square.times_alpha().times_alpha(),
@@ -37,8 +37,8 @@ impl<F: Field> Trinomial<F> {
 
     // Whether the terms add up to zero.
     fn sum_is_zero(self) -> bool
-        ensures yes { result ≡ true → ((t : _) (x : _) → Terms field t x self → trinomial_at field t x ≡ field.zero) }
-        ensures no { result ≡ false → ((t : _) (x : _) → Terms field t x self → trinomial_at field t x ≢ field.zero) }
+        ensures yes { result ≡ true → ((t : _) (x : _) → Terms F.field t x self → trinomial_at F.field t x ≡ F.field.zero) }
+        ensures no { result ≡ false → ((t : _) (x : _) → Terms F.field t x self → trinomial_at F.field t x ≢ F.field.zero) }
     {
         (self.square + self.linear + self.constant).is_zero()
     }
@@ -54,7 +54,7 @@ pub struct Locator<F> {
 impl<F: Field> Locator<F> {
     // That of the last place.
     pub(crate) fn last() -> Locator<F>
-        ensures is { IsPower field result }
+        ensures is { IsPower F.field result }
         ensures exponent { result.exponent ≡ 0 }
     {
         Locator {
@@ -66,10 +66,10 @@ impl<F: Field> Locator<F> {
     // That of the place before.
     pub(crate) fn next(self) -> Locator<F>
         requires small { self.exponent < 255 }
-        requires is { IsPower field self }
-        ensures is { IsPower field result }
+        requires is { IsPower F.field self }
+        ensures is { IsPower F.field result }
         ensures exponent { result.exponent ≡ self.exponent + 1 }
-        ensures value { result.value ≡ field.times field.alpha self.value }
+        ensures value { result.value ≡ F.field.times F.field.alpha self.value }
     {
         Locator {
             exponent: self.exponent + 1,
@@ -85,9 +85,9 @@ pub(crate) fn find_root<F: Field>(
     start: Locator<F>,
     n: usize,
 ) -> Option<Locator<F>>
-    requires is { IsPower field start }
+    requires is { IsPower F.field start }
     requires short { n ≤ 255 }
-    ensures { MatchOption result (NoRoot field t start.exponent n) (λ x. FirstRoot field t start.exponent n x) }
+    ensures { MatchOption result (NoRoot F.field t start.exponent n) (λ x. FirstRoot F.field t start.exponent n x) }
 {
     let mut here = start;
     let mut terms = t.terms_at(start.value);

@@ -15,13 +15,13 @@ pub struct Syndromes<F> {
 }
 
 fn value_at<F: Field>(r: Cubic<F>, x: F) -> F
-    ensures { result ≡ cubic_at field r x }
+    ensures { result ≡ cubic_at F.field r x }
 {
     r.k0 + x * (r.k1 + x * (r.k2 + x * r.k3))
 }
 
 pub fn syndromes_of<F: Field>(word: &[F]) -> Syndromes<F>
-    ensures { result ≡ syndromes field word.now }
+    ensures { result ≡ syndromes F.field word.now }
 {
     let r = remainder_of(word);
     let one = F::one();
@@ -37,8 +37,8 @@ pub fn syndromes_of<F: Field>(word: &[F]) -> Syndromes<F>
 }
 
 pub(crate) fn all_zero<F: Field>(s: Syndromes<F>) -> bool
-    ensures yes { result ≡ true → AllZero field s }
-    ensures no { result ≡ false → AllZero field s → ⊥ }
+    ensures yes { result ≡ true → AllZero F.field s }
+    ensures no { result ≡ false → AllZero F.field s → ⊥ }
 {
     s.s0.is_zero() && s.s1.is_zero() && s.s2.is_zero() && s.s3.is_zero()
 }

@@ -1,4 +1,6 @@
 //! Coded blocks and cassette labels in the caller's own bytes, and the lines that tell what became of a block.
+#![tactic(auto)]
+
 mod block;
 mod label;
 mod symbols;

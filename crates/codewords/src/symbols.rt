@@ -11,7 +11,7 @@ use galois::{Cubic, Field};
 // Reads each byte as the symbol of that number; refused at the first that is no number of a symbol.
 pub(crate) fn read_symbols<F: Field>(bytes: &[u8], word: &mut [F]) -> Result<(), Denial>
     requires { length word.old ≡ length bytes.now }
-    ensures { ReadAs field bytes.now word.new result }
+    ensures { ReadAs F.field bytes.now word.new result }
 {
     for (i, byte) in bytes.iter().enumerate() {
         match F::from_number(*byte) {
@@ -25,7 +25,7 @@ pub(crate) fn read_symbols<F: Field>(bytes: &[u8], word: &mut [F]) -> Result<(),
 // Writes the number of each symbol.
 fn write_numbers<F: Field>(word: &[F], bytes: &mut [u8])
     requires { length word.now ≡ length bytes.old }
-    ensures { bytes.new ≡ map field.number word.now }
+    ensures { bytes.new ≡ map F.field.number word.now }
 {
     for (i, symbol) in word.iter().enumerate() {
         bytes[i] = symbol.number();
@@ -36,8 +36,8 @@ fn write_numbers<F: Field>(word: &[F], bytes: &mut [u8])
 pub(crate) fn mend_bytes<F: Field>(bytes: &mut [u8], word: &mut [F]) -> Result<MendRecord, Denial>
     requires same { length word.old ≡ length bytes.old }
     requires long { 5 ≤ length bytes.old }
-    requires short { length bytes.old ≤ field.order }
-    ensures { MendedBytes field (length bytes.old) bytes.old bytes.new result }
+    requires short { length bytes.old ≤ F.field.order }
+    ensures { MendedBytes F.field (length bytes.old) bytes.old bytes.new result }
 {
     read_symbols(bytes, word)?;
     match mend(word) {
@@ -52,7 +52,7 @@ pub(crate) fn mend_bytes<F: Field>(bytes: &mut [u8], word: &mut [F]) -> Result<M
 // Writes `source` and then the numbers of the check symbols.
 fn write_coded<F: Field>(source: &[u8], checks: Cubic<F>, coded: &mut [u8])
     requires { length coded.old ≡ length source.now + 4 }
-    ensures { coded.new ≡ source.now ++ map field.number (symbols checks) }
+    ensures { coded.new ≡ source.now ++ map F.field.number (symbols checks) }
 {
     for (i, byte) in source.iter().enumerate() {
         coded[i] = *byte;
@@ -74,8 +74,8 @@ pub(crate) fn make_bytes<F: Field>(
     requires same { length word.old ≡ length source.now }
     requires place { length coded.old ≡ length source.now + 4 }
     requires long { 1 ≤ length source.now }
-    requires short { length source.now + 4 ≤ field.order }
-    ensures { MadeBytes field source.now coded.old coded.new result }
+    requires short { length source.now + 4 ≤ F.field.order }
+    ensures { MadeBytes F.field source.now coded.old coded.new result }
 {
     read_symbols(source, word)?;
     let Some(checks) = check_symbols(word) else {

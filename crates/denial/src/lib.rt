@@ -1,4 +1,6 @@
 //! Why a call was refused.
+#![tactic(auto)]
+
 ghost use Rattle.std.specs.Prelude.{◌≡◌, Some};
 ghost use Rattle.denial.specs.Denials.{number_of, word_of, layer_word_of, denied, shown_of};
 

@@ -1,4 +1,6 @@
 //! Maps one field onto each kind of carrier and tells what the carriers hold then.
+#![tactic(auto)]
+
 mod blocks;
 mod fault;
 mod mapped;

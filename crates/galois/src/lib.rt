@@ -1,4 +1,6 @@
 //! Finite fields of characteristic two: the trait that the code is written over, and the two fields that the library uses.
+#![tactic(auto)]
+
 mod cubic;
 mod gf16;
 mod gf256;

@@ -1,4 +1,6 @@
 //! The layout of a field: ten-bit words, where every coded byte stands, and every word of a mapped field.
+#![tactic(auto)]
+
 mod field;
 mod memory;
 mod places;

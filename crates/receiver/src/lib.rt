@@ -1,4 +1,6 @@
 //! The receiver: lines in, as a capture card lets go of them; each block out, or the answer that it is missing or lost.
+#![tactic(auto)]
+
 mod asks;
 mod lines;
 mod memory;

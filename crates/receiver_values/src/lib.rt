@@ -1,4 +1,6 @@
 //! What a receiver answers, as tests.
+#![tactic(auto)]
+
 #[cfg(test)]
 mod asks;
 #[cfg(test)]

@@ -1,4 +1,6 @@
 //! Lays a field out, carries out a script of damage and offers, and reports what became of every block.
+#![tactic(auto)]
+
 ghost use Rattle.std.specs.Prelude.{◌≡◌, true, ◌++◌, Ok, Err};
 ghost use Rattle.carriers.specs.Rates.{is_field};
 ghost use Rattle.rehearse.specs.Script.{all_offers, steps_of};

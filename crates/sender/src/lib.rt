@@ -1,4 +1,6 @@
 //! The sender: basic blocks in, the words of a whole field out.
+#![tactic(auto)]
+
 mod mapping;
 mod memory;
 mod passes;

@@ -1,4 +1,6 @@
 //! What a sender answers and leaves, as tests.
+#![tactic(auto)]
+
 #[cfg(test)]
 mod loading;
 #[cfg(test)]

@@ -1,4 +1,6 @@
 //! A strip: ten-bit words packed into lent memory.
+#![tactic(auto)]
+
 mod packed;
 
 ghost use Rattle.std.specs.Prelude.{ℕ, List, length};

@@ -1,4 +1,6 @@
 //! The way of a field from a sender to a receiver, over any carrier, and what is promised of it.
+#![tactic(auto)]
+
 mod steps;
 mod whole;
 

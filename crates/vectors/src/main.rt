@@ -1,4 +1,6 @@
 //! Runs the library on the test vectors of standard input, a case to a line, and tells how many agree.
+#![tactic(auto)]
+
 mod cases;
 mod fault;
 mod text;

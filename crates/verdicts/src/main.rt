@@ -1,4 +1,6 @@
 //! Tells the verdict on each block of standard input, a line to a block.
+#![tactic(auto)]
+
 ghost use Rattle.std.specs.Prelude.{◌≤◌, length, IfOk};
 
 use codewords::{BLOCK, verdict_lines};

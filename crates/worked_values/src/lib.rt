@@ -1,4 +1,6 @@
 //! Worked values of the code, as tests.
+#![tactic(auto)]
+
 #[cfg(test)]
 mod code;
 #[cfg(test)]

@@ -7,7 +7,7 @@ use Rattle.client.proofs.ask_by_hand.Goals as goal
 pub returns : goal.returns
 returns g c = λ accepted fit hp hc long.
     let plan = c.args.plan in
-    let map = c.in-ok-map.ensures in
+    let map = c.in_ok-map.ensures in
     let m = c.args.memory.now in
     let all = three_steps (g.C.Carrier.meaning c.map.new.carrier) (g.C.Carrier.meaning c.write.new.self) plan.line plan.word plan.value plan.first plan.second
     m c.begin-receiver.result.memory.now c.offer.new.self.memory.now c.offer-2.new.self.memory.now c.offer.result c.offer-2.result

@@ -6,7 +6,7 @@ use Rattle.rehearse.proofs.add_offers.Goals as goal
 
 pub loop-line-preserved : goal.loop-line-preserved
 loop-line-preserved c =
-    c.in-ok-push.ensures.items
+    c.in_ok-push.ensures.items
     ∙ offers_behind (vec_items c.args.steps.now) (vec_items c.loop-line.steps) c.loop-line.line c.loop-line.invariant
 
 pub returns : goal.returns

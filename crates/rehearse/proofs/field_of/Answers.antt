@@ -7,4 +7,4 @@ pub returns : goal.returns
 returns c =
     let rate = c.in-Ok.rate in
     let field = c.in-Ok-number.field in
-    field_is (is_field rate field) (start_of rate field) (sym (ap is_some c.field-start-2.ensures) ∙ c.if-is-none-2.ensures)
+    field_is (is_field rate field) (start_of rate field) (sym (ap is_some c.field_start-2.ensures) ∙ c.if-is_none-2.ensures)

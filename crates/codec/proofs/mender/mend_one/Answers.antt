@@ -5,30 +5,30 @@ use Rattle.codec.proofs.Changes.{differing_one, names_one}
 use Rattle.codec.proofs.Deciding.{one_zero, one_missed, one_wrong, one_right}
 use Rattle.codec.proofs.mender.mend_one.Goals as goal
 
-pub returns-then-is-zero : goal.returns-then-is-zero
-returns-then-is-zero g c =
+pub returns-then-is_zero : goal.returns-then-is_zero
+returns-then-is_zero g c =
     let m = g.met.F.Field in (
       refl,
       one_zero g.F.Field.field m.laws c.args.word.now c.requires.long c.requires.short c.args.s c.requires.told c.requires.unclean c.requires.singular
-          (c.is-zero.ensures.yes c.if-is-zero.true),
+          (c.is_zero.ensures.yes c.if-is_zero.true),
     )
 
-pub returns-in-err-root : goal.returns-in-err-root
-returns-in-err-root g c =
+pub returns-in_err-root : goal.returns-in_err-root
+returns-in_err-root g c =
     let m = g.met.F.Field in
-    rw c.from-residual.ensures (
+    rw c.from_residual.ensures (
       refl,
       one_missed g.F.Field.field m.laws c.args.word.now c.requires.long c.requires.short c.args.s c.requires.told c.requires.unclean c.requires.singular
-          c.zero.result c.zero.ensures (λ k l h e. c.in-err-root.ensures k (omega (arith, c.last.ensures.exponent)) h e),
+          c.zero.result c.zero.ensures (λ k l h e. c.in_err-root.ensures k (omega (arith, c.last.ensures.exponent)) h e),
     )
 
-pub returns-then-not-is-sole-locator : goal.returns-then-not-is-sole-locator
-returns-then-not-is-sole-locator g c =
+pub returns-then-not-is_sole_locator : goal.returns-then-not-is_sole_locator
+returns-then-not-is_sole_locator g c =
     let m = g.met.F.Field in
-    let found = c.in-ok-root.ensures in (
+    let found = c.in_ok-root.ensures in (
       refl,
       one_wrong g.F.Field.field m.laws c.args.word.now c.requires.long c.requires.short c.args.s c.requires.told c.requires.unclean c.requires.singular
-          c.zero.result _ c.zero.ensures found.root (c.is-sole-locator.ensures.no c.if-not-is-sole-locator.true),
+          c.zero.result _ c.zero.ensures found.root (c.is_sole_locator.ensures.no c.if-not-is_sole_locator.true),
     )
 
 pub returns : goal.returns
@@ -37,13 +37,13 @@ returns g c =
     let m = g.met.F.Field in
     let w = c.args.word.now in
     let s = c.args.s in
-    let e = c.in-ok-root.root.exponent in
+    let e = c.in_ok-root.root.exponent in
     let p = length w - 1 - e in
-    let found = c.in-ok-root.ensures in
-    let steps = c.is-sole-locator.ensures.yes c.if-not-is-sole-locator.false in
-    let nonzero = c.is-zero.ensures.no c.if-is-zero.false in
+    let found = c.in_ok-root.ensures in
+    let steps = c.is_sole_locator.ensures.yes c.if-not-is_sole_locator.false in
+    let nonzero = c.is_zero.ensures.no c.if-is_zero.false in
     let inside : length w - 1 - e < length w = omega (arith, found.below) in
-    let near = one_right K m.laws w c.requires.long c.requires.short s c.requires.told c.zero.result c.in-ok-root.root.value e
+    let near = one_right K m.laws w c.requires.long c.requires.short s c.requires.told c.zero.result c.in_ok-root.root.value e
     c.zero.ensures nonzero found.root steps.0 steps.1 found.below found.is in
     let named = names_one c.one.result p c.one.ensures.0 c.one.ensures.1 ∙ sym (differing_one K m.laws w p s.s0 inside nonzero) in
     subst (λ v. WithinTwo K w v × (places c.one.result ≡ differing K.number v w)) (sym c.alter.ensures) (near, named)

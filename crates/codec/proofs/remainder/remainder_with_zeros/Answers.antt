@@ -10,5 +10,5 @@ returns g c = λ z e.
     let o = c.zero-zero.result in
     let r = c.shifted.result in
     let all = remains_four K g.met.F.Field.laws w o r
-    (c.shifted.ensures _ (c.shifted-r-3.ensures _ (c.shifted-r-2.ensures _ (c.shifted-r.ensures w c.remainder-of-r.ensures)))) in
+    (c.shifted.ensures _ (c.shifted-r-3.ensures _ (c.shifted-r-2.ensures _ (c.shifted-r.ensures w c.remainder_of-r.ensures)))) in
     subst (λ y. Remains K (w ++ (y ∷ y ∷ y ∷ y ∷ [])) r) (c.zero-zero.ensures ∙ sym e) all

@@ -14,4 +14,4 @@ returns g c = λ w remains k h.
       k1 = m.sums _ _ _ c.add-3.ensures i;
       k0 = m.sums _ _ _ c.add-4.ensures i;
     }) (power K K.alpha k))
-    ∙ remains_push K m.laws w c.args.r c.times-x4-carried.result c.args.symbol c.times-x4-carried.ensures remains k h
+    ∙ remains_push K m.laws w c.args.r c.times_x4-carried.result c.args.symbol c.times_x4-carried.ensures remains k h

@@ -11,4 +11,4 @@ returns-then-block-ne-BLOCK c =
 
 pub returns : goal.returns
 returns c =
-    subst (λ n. MendedBytes gf256 n c.args.block.now c.mend-bytes.new.bytes c.mend-bytes.result) c.if-block-ne-BLOCK.false c.mend-bytes.ensures
+    subst (λ n. MendedBytes gf256 n c.args.block.now c.mend_bytes.new.bytes c.mend_bytes.result) c.if-block-ne-BLOCK.false c.mend_bytes.ensures

@@ -11,4 +11,4 @@ returns-then-label-ne-LABEL c =
 
 pub returns : goal.returns
 returns c =
-    subst (λ n. MendedBytes gf16 n c.args.label.now c.mend-bytes.new.bytes c.mend-bytes.result) c.if-label-ne-LABEL.false c.mend-bytes.ensures
+    subst (λ n. MendedBytes gf16 n c.args.label.now c.mend_bytes.new.bytes c.mend_bytes.result) c.if-label-ne-LABEL.false c.mend_bytes.ensures

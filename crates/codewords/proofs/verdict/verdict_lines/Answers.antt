@@ -12,18 +12,18 @@ pub loop-rest-preserved : goal.loop-rest-preserved
 loop-rest-preserved c = λ t lines.
     let o = c.loop-rest.ordinal in
     let b = c.loop-rest.rest.now in
-    let line = string_bytes c.in-ok-line.line in
+    let line = string_bytes c.in_ok-line.line in
     let text = string_bytes c.loop-rest.text in
-    let tells = subst (λ d. Tells o d line) c.split-at.ensures.front c.in-ok-line.ensures in
-    let rest = subst (λ d. Lines (next_ordinal o) d t) c.split-at.ensures.back lines in
-    let some = lines_more o c.min.result b line t (omega (arith, eqb-false (length b) 0 (sym c.is-empty.ensures ∙ c.loop-rest-test.true))) c.min.ensures tells rest in
+    let tells = subst (λ d. Tells o d line) c.split_at.ensures.front c.in_ok-line.ensures in
+    let rest = subst (λ d. Lines (next_ordinal o) d t) c.split_at.ensures.back lines in
+    let some = lines_more o c.min.result b line t (omega (arith, eqb-false (length b) 0 (sym c.is_empty.ensures ∙ c.loop-rest-test.true))) c.min.ensures tells rest in
     subst (λ x. Lines c.args.first c.args.bytes.now x)
-    (sym (ap (λ x. x ++ t) (c.in-ok-push-str.ensures.bytes ∙ ap (λ x. text ++ x) c.as-str.ensures.value) ∙ append_assoc text line t))
+    (sym (ap (λ x. x ++ t) (c.in_ok-push_str.ensures.bytes ∙ ap (λ x. text ++ x) c.as_str.ensures.value) ∙ append_assoc text line t))
     (c.loop-rest.invariant (line ++ t) some)
 
 pub returns : goal.returns
 returns c =
     let b = c.loop-rest.rest.now in
-    let ended = nil_from_length b (eqb-true (length b) 0 (sym c.is-empty.ensures ∙ c.loop-rest-test.false)) in
+    let ended = nil_from_length b (eqb-true (length b) 0 (sym c.is_empty.ensures ∙ c.loop-rest-test.false)) in
     subst (λ x. Lines c.args.first c.args.bytes.now x) (append-nil (string_bytes c.loop-rest.text))
     (c.loop-rest.invariant [] (subst (λ d. Lines c.loop-rest.ordinal d []) (sym ended) (none c.loop-rest.ordinal)))

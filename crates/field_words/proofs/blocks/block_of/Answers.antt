@@ -9,6 +9,6 @@ loop-j-preserved c =
     let j = c.loop-j.j in
     let inv = c.loop-j.invariant in
     let byte : ℕ → ℕ = λ k. (31 * c.args.packet + 17 * c.args.channel + k) % 256 in (
-      length-set block j c.byte-of.result ∙ inv.0,
-      λ k h. ap (λ v. get_or (set block j v) k 0) c.byte-of.ensures ∙ fill_by_more byte block j 0 (omega arith) inv.1 k h,
+      length-set block j c.byte_of.result ∙ inv.0,
+      λ k h. ap (λ v. get_or (set block j v) k 0) c.byte_of.ensures ∙ fill_by_more byte block j 0 (omega arith) inv.1 k h,
     )

@@ -9,5 +9,5 @@ loop-j-preserved g c =
       omega arith,
       length-set c.loop-j.memory _ c.received_byte.result ∙ inv.1,
       line_more c.args.memory.now c.loop-j.memory ((g.C.Carrier.meaning c.args.carrier.now).word c.args.line) c.args.line c.loop-j.j
-          c.received_byte.result (omega arith) inv.2 (c.received_byte.ensures ∙ ap received_byte c.word-of.ensures),
+          c.received_byte.result (omega arith) inv.2 (c.received_byte.ensures ∙ ap received_byte c.word_of.ensures),
     )

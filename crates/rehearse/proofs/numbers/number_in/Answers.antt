@@ -16,4 +16,4 @@ returns c =
     let f = appended c.args.base in
     let digits = c.args.digits.now in
     sym (folded_done f c.loop-character.number digits c.loop-character.character-index c.loop-character-test.false)
-    ∙ c.loop-character.invariant ∙ sym (number_read c.args.base digits c.if-is-empty.ensures)
+    ∙ c.loop-character.invariant ∙ sym (number_read c.args.base digits c.if-is_empty.ensures)

@@ -7,8 +7,8 @@ pub returns : goal.returns
 returns g c =
     record {
       after = λ coded blocks.
-          c.put-filling.ensures.after
-          ∙ ap (with_filling 1438) (c.put-all-edges.ensures.after ∙ ap (with_edges 212) (c.map-stream.ensures.after coded blocks))
+          c.put_filling.ensures.after
+          ∙ ap (with_filling 1438) (c.put_all_edges.ensures.after ∙ ap (with_edges 212) (c.map_stream.ensures.after coded blocks))
           ∙ passes_all coded _;
-      beside = c.put-filling.ensures.beside ∙ c.put-all-edges.ensures.beside ∙ c.map-stream.ensures.beside;
+      beside = c.put_filling.ensures.beside ∙ c.put_all_edges.ensures.beside ∙ c.map_stream.ensures.beside;
     }

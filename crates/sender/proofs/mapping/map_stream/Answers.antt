@@ -5,7 +5,7 @@ use Rattle.sender.proofs.mapping.map_stream.Goals as goal
 pub loop-packet-preserved : goal.loop-packet-preserved
 loop-packet-preserved g c =
     let inv = c.loop-packet.invariant in
-    let one = c.map-packet.ensures in
+    let one = c.map_packet.ensures in
     let next : 448 * c.loop-packet.packet + 448 ≡ 448 * (c.loop-packet.packet + 1) = omega arith in (
       one.first ∙ inv.0,
       one.end ∙ inv.1,

@@ -8,5 +8,5 @@ returns c =
     let i = index_of c.args.packet c.args.channel in
     let at = 219 * i in
     let size : at + 219 - at ≡ 219 = omega arith in
-    ap (λ ys. set (take at m ++ (ys ++ drop (at + 219 - at) (drop at m))) (296964 + i) 1) c.copy-from-slice.ensures.after
+    ap (λ ys. set (take at m ++ (ys ++ drop (at + 219 - at) (drop at m))) (296964 + i) 1) c.copy_from_slice.ensures.after
     ∙ ap (λ zs. set (take at m ++ (c.args.block.now ++ zs)) (296964 + i) 1) (drop-drop (at + 219 - at) at m ∙ ap (λ k. drop (at + k) m) size)

@@ -6,8 +6,8 @@ use Rattle.sender.proofs.passes.put_packet.Goals as goal
 pub loop-j-preserved : goal.loop-j-preserved
 loop-j-preserved g c =
     let inv = c.loop-j.invariant in
-    let one = c.put-byte.ensures in
-    let two = c.put-byte-in-loop-j.ensures in (
+    let one = c.put_byte.ensures in
+    let two = c.put_byte-in-loop-j.ensures in (
       ap (λ m. m.first) two.after ∙ ap (λ m. m.first) one.after ∙ inv.0,
       ap (λ m. m.end) two.after ∙ ap (λ m. m.end) one.after ∙ inv.1,
       two.beside ∙ one.beside ∙ inv.2,

@@ -6,11 +6,11 @@ pub returns : goal.returns
 returns c =
     let bytes = c.args.bytes.now in
     let place = c.args.place in
-    let old = c.pair-at-pair in
+    let old = c.pair_at-pair in
     let new = c.with_word in
     let inside : place + place / 4 + 1 < length bytes = omega arith in
-    let low : get_or c.to-le-bytes.result 0 0 ≡ new.result % 256 = ap (λ l. get_or l 0 0) c.to-le-bytes.ensures in
-    let high : get_or c.to-le-bytes.result 1 0 ≡ new.result / 256 = omega (arith, ap (λ l. get_or l 1 0) c.to-le-bytes.ensures) in
+    let low : get_or c.to_le_bytes.result 0 0 ≡ new.result % 256 = ap (λ l. get_or l 0 0) c.to_le_bytes.ensures in
+    let high : get_or c.to_le_bytes.result 1 0 ≡ new.result / 256 = omega (arith, ap (λ l. get_or l 1 0) c.to_le_bytes.ensures) in
     record {
       here = rw (low, high) (put_word bytes place new.result inside ∙ new.ensures.word);
       there = rw (low, high)

@@ -13,5 +13,5 @@ returns c =
       above = joined_above pair shift value (omega arith) c.requires.inside c.requires.narrow;
     }
 
-pub overflow-add-result-2 : goal.overflow-add-result-2
-overflow-add-result-2 c = omega (arith, joined_fits c.args.pair c.args.shift c.args.value (omega arith) c.requires.inside c.requires.narrow)
+pub overflow_add-result-2 : goal.overflow_add-result-2
+overflow_add-result-2 c = omega (arith, joined_fits c.args.pair c.args.shift c.args.value (omega arith) c.requires.inside c.requires.narrow)

@@ -12,8 +12,8 @@ loop-i-init g c = (refl, refl, ran_none _ _, refl, refl, (λ k h. absurd (omega 
 pub loop-i-preserved : goal.loop-i-preserved
 loop-i-preserved g c =
     let inv = c.loop-i.invariant in
-    let did = c.carry-out-answer.ensures in
-    let noted = answers_more _ c.args.steps.now c.loop-i.i _ _ _ _ c.carry-out-answer.result c.args.answers.now c.loop-i.answers c.note.new.answers c.loop-i-test.true
+    let did = c.carry_out-answer.ensures in
+    let noted = answers_more _ c.args.steps.now c.loop-i.i _ _ _ _ c.carry_out-answer.result c.args.answers.now c.loop-i.answers c.note.new.answers c.loop-i-test.true
     inv.0 inv.2 did.answer c.note.ensures (inv.4, inv.5, inv.6) in (
       after_more _ c.args.steps.now c.loop-i.i _ _ _ c.loop-i-test.true inv.0 did.carrier,
       did.beside ∙ inv.1,

@@ -13,8 +13,8 @@ returns c =
     let line = c.args.line in
     let word = c.args.word in
     let value = c.args.value in
-    let place = c.in-ok-place.place in
-    let e = c.in-ok-place.ensures in
+    let place = c.in_ok-place.place in
+    let e = c.in_ok-place.ensures in
     let h : has (sheet first words) line word ≡ true = grind (arith, nat_tests) in
     let p : place ≡ place_in first line word = grind (arith, nat_tests) in
     record {

@@ -8,7 +8,7 @@ returns g c =
     let K = g.F.Field.field in
     let e = c.args.self.exponent in
     record {
-      is = c.times-alpha.ensures ∙ ap (K.times K.alpha) c.requires.is ∙ sym (power_suc K K.alpha e) ∙ ap (power K K.alpha) (sym (add-one e));
+      is = c.times_alpha.ensures ∙ ap (K.times K.alpha) c.requires.is ∙ sym (power_suc K K.alpha e) ∙ ap (power K K.alpha) (sym (add-one e));
       exponent = refl;
-      value = c.times-alpha.ensures;
+      value = c.times_alpha.ensures;
     }
