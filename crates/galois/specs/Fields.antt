@@ -1,5 +1,5 @@
 -- The two fields: 256 elements modulo X^8 + X^4 + X^3 + X^2 + 1, and 16 elements modulo X^4 + X + 1. In both alpha is X.
-use Rattle.std.specs.Prelude.{ℕ, zero, suc, ◌-◌, ◌%◌, ◌^◌, bit_xor}
+use Rattle.std.specs.Prelude.{ℕ, suc, ◌-◌, ◌%◌, ◌^◌, bit_xor}
 use Rattle.std.proofs.Common.{mod-lt, lit<}
 use Rattle.galois.specs.Binary.{product}
 use Rattle.galois.specs.Field.{Arithmetic}
