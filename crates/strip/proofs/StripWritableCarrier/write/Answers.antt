@@ -9,7 +9,7 @@ use Rattle.strip.proofs.StripWritableCarrier.write.Goals as goal
 pub returns : goal.returns
 returns c =
     let first = c.args.self.now.first in
-    let name = c.args.self.now.bytes.name in
+    let name = c.args.self.now.bytes.ghost_name in
     let bytes = c.args.self.now.bytes.now in
     let line = c.args.line in
     let word = c.args.word in

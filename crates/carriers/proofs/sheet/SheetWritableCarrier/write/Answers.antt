@@ -8,7 +8,7 @@ use Rattle.carriers.proofs.sheet.SheetWritableCarrier.write.Goals as goal
 pub returns : goal.returns
 returns c =
     let first = c.args.self.now.first in
-    let name = c.args.self.now.words.name in
+    let name = c.args.self.now.words.ghost_name in
     let words = c.args.self.now.words.now in
     let line = c.args.line in
     let word = c.args.word in
