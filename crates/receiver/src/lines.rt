@@ -15,8 +15,8 @@ const WIDEST: u16 = 1023;
 
 // A word of a line that the carrier has.
 pub(crate) fn word_of<C: Carrier>(carrier: &C, line: usize, word: usize) -> u16
-    requires { has (meaning carrier.now) line word ≡ true }
-    ensures { result ≡ (meaning carrier.now).word line word }
+    requires { has (C.meaning carrier.now) line word ≡ true }
+    ensures { result ≡ (C.meaning carrier.now).word line word }
 {
     match carrier.read(line, word) {
         Ok(number) => number,
@@ -26,8 +26,8 @@ pub(crate) fn word_of<C: Carrier>(carrier: &C, line: usize, word: usize) -> u16
 
 // The first word that is too wide.
 fn first_wide<C: Carrier>(carrier: &C, line: usize) -> Option<usize>
-    requires { has (meaning carrier.now) line 0 ≡ true }
-    ensures { result ≡ first_below (λ w. not (nat_le ((meaning carrier.now).word line w) 1023)) 1440 }
+    requires { has (C.meaning carrier.now) line 0 ≡ true }
+    ensures { result ≡ first_below (λ w. not (nat_le ((C.meaning carrier.now).word line w) 1023)) 1440 }
 {
     for word in 0..WORDS {
         if word_of(carrier, line, word) > WIDEST {
@@ -55,8 +55,8 @@ fn head_fault(first: u16, mark: u16, line: usize) -> Option<Denial>
 
 // What the words of a line are refused for.
 pub(crate) fn line_fault<C: Carrier>(carrier: &C, line: usize) -> Option<Denial>
-    requires { has (meaning carrier.now) line 0 ≡ true }
-    ensures { result ≡ fault ((meaning carrier.now).word line) line }
+    requires { has (C.meaning carrier.now) line 0 ≡ true }
+    ensures { result ≡ fault ((C.meaning carrier.now).word line) line }
 {
     if let Some(word) = first_wide(carrier, line) {
         return Some(Denial::new(Reason::Wide, Layer::Line, line, word));

@@ -11,7 +11,7 @@ use layout::received_byte;
 
 // Whether a line may be taken.
 fn check_offer<C: Carrier>(memory: &[u8], carrier: &C, line: usize) -> Result<(), Denial>
-    ensures { result ≡ offer_at memory.now (meaning carrier.now) line }
+    ensures { result ≡ offer_at memory.now (C.meaning carrier.now) line }
 {
     if memory.len() != MEMORY {
         return Err(Denial::new(Reason::Memory, Layer::Field, memory.len(), 0));
@@ -33,9 +33,9 @@ fn check_offer<C: Carrier>(memory: &[u8], carrier: &C, line: usize) -> Result<()
 fn take_line<C: Carrier>(memory: &mut [u8], carrier: &C, line: usize)
     requires memory { length memory.old ≡ 304644 }
     requires line { line ≤ 211 }
-    requires has { has (meaning carrier.now) line 0 ≡ true }
+    requires has { has (C.meaning carrier.now) line 0 ≡ true }
     ensures size { length memory.new ≡ length memory.old }
-    ensures bytes { (i : ℕ) → slice_index memory.new i ≡ taken_byte memory.old ((meaning carrier.now).word line) line i }
+    ensures bytes { (i : ℕ) → slice_index memory.new i ≡ taken_byte memory.old ((C.meaning carrier.now).word line) line i }
 {
     let start = LINE * line;
     for j in 0..LINE {
@@ -50,8 +50,8 @@ pub(crate) fn offer_into<C: Carrier>(
     carrier: &C,
     line: usize,
 ) -> Result<(), Denial>
-    ensures answer { result ≡ offer_at memory.old (meaning carrier.now) line }
-    ensures after { Offered memory.old ((meaning carrier.now).word line) line memory.new result }
+    ensures answer { result ≡ offer_at memory.old (C.meaning carrier.now) line }
+    ensures after { Offered memory.old ((C.meaning carrier.now).word line) line memory.new result }
 {
     check_offer(memory, carrier, line)?;
     take_line(memory, carrier, line);

@@ -36,8 +36,8 @@ impl<'m> Gathering<'m> {
     /// Takes a line of a carrier. It is taken whole or, refused, not a byte of the memory changes: `off` by the field above line 211, `held`
     /// where it was taken before, `off` by the carrier that lacks it, `wide`, `type`, `empty` and `mark` for its words.
     pub fn offer<C: Carrier>(&mut self, carrier: &C, line: usize) -> Result<(), Denial>
-        ensures answer { result ≡ offer_at self.old.memory.now (meaning carrier.now) line }
-        ensures after { Offered self.old.memory.now ((meaning carrier.now).word line) line self.new.memory.now result }
+        ensures answer { result ≡ offer_at self.old.memory.now (C.meaning carrier.now) line }
+        ensures after { Offered self.old.memory.now ((C.meaning carrier.now).word line) line self.new.memory.now result }
         ensures same { self.new.memory.ghost_name ≡ self.old.memory.ghost_name }
     {
         offer_into(self.memory, carrier, line)

@@ -21,6 +21,7 @@ use script::{Command, parse_line};
 use sender::Sender;
 use std::alloc::{AllocFailed, Global};
 use std::io::{BufRead, BufReader, Write};
+use std::process::ExitCode;
 use std::{env, fs};
 use transfer::Step;
 
@@ -116,12 +117,12 @@ fn run(rt: &HostRuntime) -> Result<(), Fault> {
     Ok(())
 }
 
-fn main(rt: HostRuntime) -> Result<(), Fault> {
+fn main(rt: HostRuntime) -> ExitCode {
     match run(&rt) {
-        Ok(()) => Ok(()),
+        Ok(()) => ExitCode::SUCCESS,
         Err(fault) => {
             let _ = eprintln!(rt; "rehearse: {fault}");
-            Err(fault)
+            ExitCode::FAILURE
         }
     }
 }

@@ -23,7 +23,7 @@ pub(crate) fn first_unloaded(memory: &[u8]) -> Option<usize>
 
 // The first line of a field that the carrier lacks.
 pub(crate) fn first_absent<C: Carrier>(carrier: &C) -> Option<usize>
-    ensures { result ≡ absent (meaning carrier.now) }
+    ensures { result ≡ absent (C.meaning carrier.now) }
 {
     for line in 0..LINES {
         if carrier.read(line, 0).is_err() {
