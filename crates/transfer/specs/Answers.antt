@@ -28,8 +28,8 @@ pub record AnswersIn (c : Meaning) (steps : List Step) (m : List ℕ) (was now :
   pub others : (i : ℕ) → length steps ≤ i → slice_index_or now i (Ok tt) ≡ slice_index_or was i (Ok tt)
 
 -- What an offer of line n is answered where the line was not taken before.
-abbrev pub offered-now : Meaning → ℕ → Answer
-offered-now c n = cond (has c n 0) (by_fault (fault (c.word n) n)) (Err (lacking n 0))
+abbrev pub offered_now : Meaning → ℕ → Answer
+offered_now c n = cond (has c n 0) (by_fault (fault (c.word n) n)) (Err (lacking n 0))
 
 -- After the steps `before`, counted from a beginning in memory of `size` bytes, the step x was answered r.
 abbrev pub Answered : Meaning → List Step → ℕ → Step → Answer → Type 0
@@ -38,7 +38,7 @@ Answered c before size (Offer n) r =
     ((size ≢ 304644) → r ≡ Err (denied Memory Field size 0))
     × (size ≡ 304644 → 211 < n → r ≡ Err (denied Off Field n 0))
     × (size ≡ 304644 → n ≤ 211 → OfferedSound c before n → r ≡ Err (denied Held Field n 0))
-    × (size ≡ 304644 → n ≤ 211 → (OfferedSound c before n → ⊥) → r ≡ offered-now (after_steps c before) n)
+    × (size ≡ 304644 → n ≤ 211 → (OfferedSound c before n → ⊥) → r ≡ offered_now (after_steps c before) n)
 
 -- So was each step of the list, as many as there is room for the answers; other places are as they were.
 pub record Answers (c : Meaning) (steps : List Step) (size : ℕ) (was now : List Answer) : Type 0 where
