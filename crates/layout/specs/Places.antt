@@ -26,6 +26,10 @@ byte_line packet channel j = line_of (stream_place packet channel j)
 abbrev pub is_block : ℕ → ℕ → Bool
 is_block packet channel = nat_le packet 677 && nat_le channel 1
 
+-- How many blocks stand before a block in the stream: a packet's block from channel 1 comes before the one from channel 0.
+abbrev pub ordinal_of : ℕ → ℕ → ℕ
+ordinal_of packet channel = 2 * packet + (1 - channel)
+
 -- The denial of a question for what no field has.
 abbrev pub no_such : ℕ → ℕ → Denial
 no_such packet channel = denied Number Field packet channel

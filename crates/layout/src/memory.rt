@@ -1,6 +1,8 @@
-//! Memory whose last bytes are marks.
-ghost use Rattle.std.specs.Prelude.{◌≡◌};
-ghost use Rattle.layout.specs.Cleared.{cleared};
+//! Lent memory whose last bytes are marks.
+ghost use Rattle.std.specs.Prelude.{◌≡◌, ◌≢◌, cond, length, ◌==◌, MatchResult};
+ghost use Rattle.layout.specs.Cleared.{cleared, unfit};
+
+use denial::{Denial, Layer, Reason};
 
 /// Sets every byte from a place on to 0.
 pub fn clear(memory: &mut [u8], from: usize)
@@ -9,4 +11,20 @@ pub fn clear(memory: &mut [u8], from: usize)
     if from < memory.len() {
         memory[from..].fill(0);
     }
+}
+
+/// Sets every mark to 0 in memory of a told length, whose marks begin at a place. Memory of another length is left as it is.
+pub fn clear_marks(memory: &mut [u8], size: usize, from: usize)
+    ensures { memory.new ≡ cond (length memory.old == size) (cleared memory.old from) memory.old }
+{
+    if memory.len() == size {
+        clear(memory, from);
+    }
+}
+
+/// The memory by its length; refused with `memory` where it has another.
+pub fn whole<const LENGTH: usize>(memory: &[u8]) -> Result<&[u8; LENGTH], Denial>
+    ensures { MatchResult result (λ all. all.now ≡ memory.now) (λ denial. (length memory.now ≢ LENGTH) × (denial ≡ unfit memory.now)) }
+{
+    memory.try_into().map_err(|_| Denial::new(Reason::Memory, Layer::Field, memory.len(), 0))
 }

@@ -2,7 +2,8 @@
 ghost use Rattle.std.specs.Prelude.{◌≡◌, IfOk};
 ghost use Rattle.layout.specs.Places.{Crosses, placed, QuestionsUndo, seconded, Stands, StreamCovered};
 
-use denial::{Denial, Layer, Reason};
+use crate::block::BlockName;
+use denial::{Denial, Reason};
 
 /// A byte of a coded block.
 #[derive(Clone, Copy, PartialEq, Eq, Debug)]
@@ -12,11 +13,7 @@ pub struct CodedByte {
     pub byte: usize,
 }
 
-// The last packet, the last channel, and the last byte of a block.
-const LAST_PACKET: usize = 677;
-
-const LAST_CHANNEL: usize = 1;
-
+// The last byte of a block.
 const LAST_BYTE: usize = 223;
 
 // Bytes to a packet, and stream bytes to a line.
@@ -33,10 +30,11 @@ const STREAM: usize = 678 * PACKET;
 pub fn place_of(packet: usize, channel: usize, byte: usize) -> Result<(usize, usize), Denial>
     ensures { result ≡ placed packet channel byte }
 {
-    if packet > LAST_PACKET || channel > LAST_CHANNEL || byte > LAST_BYTE {
-        return Err(Denial::new(Reason::Number, Layer::Field, packet, channel));
+    let name = BlockName::new(packet, channel)?;
+    if byte > LAST_BYTE {
+        return Err(name.refused(Reason::Number));
     }
-    let q = PACKET * packet + 2 * byte + (1 - channel);
+    let q = name.start() + 2 * byte;
     Ok((q / LINE, 2 + q % LINE))
 }
 
