@@ -4,25 +4,26 @@
 ghost use Rattle.std.specs.Prelude.{◌≡◌, Some};
 ghost use Rattle.denial.specs.Denials.{number_of, word_of, layer_word_of, denied, shown_of};
 
+use std::error::Error;
 use std::fmt;
 
-/// What was wrong.
+/// What was wrong, with its number.
 #[derive(Clone, Copy, PartialEq, Eq, Debug)]
 pub enum Reason {
-    Memory,
-    Off,
-    Wide,
-    Type,
-    Empty,
-    Mark,
-    Held,
-    Number,
-    Length,
-    Loaded,
-    Unfilled,
-    Short,
-    Missing,
-    Lost,
+    Memory = 1,
+    Off = 2,
+    Wide = 3,
+    Type = 4,
+    Empty = 5,
+    Mark = 6,
+    Held = 7,
+    Number = 8,
+    Length = 9,
+    Loaded = 10,
+    Unfilled = 11,
+    Short = 12,
+    Missing = 13,
+    Lost = 14,
 }
 
 /// Which layer refused.
@@ -44,26 +45,11 @@ pub struct Denial {
 }
 
 impl Reason {
-    /// The reason's number, from 1.
+    /// The reason's number.
     pub fn number(self) -> u8
         ensures { result ≡ number_of self }
     {
-        match self {
-            Reason::Memory => 1,
-            Reason::Off => 2,
-            Reason::Wide => 3,
-            Reason::Type => 4,
-            Reason::Empty => 5,
-            Reason::Mark => 6,
-            Reason::Held => 7,
-            Reason::Number => 8,
-            Reason::Length => 9,
-            Reason::Loaded => 10,
-            Reason::Unfilled => 11,
-            Reason::Short => 12,
-            Reason::Missing => 13,
-            Reason::Lost => 14,
-        }
+        self as u8
     }
 
     /// The reason's name in lower case.
@@ -134,3 +120,5 @@ impl fmt::Display for Denial {
         write!(f, "{number} {word} {layer} {first} {second}")
     }
 }
+
+impl Error for Denial {}
