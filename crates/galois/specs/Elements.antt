@@ -5,25 +5,21 @@ use mathlib.Core.HLevel.{is_prop→PathP}
 use Rattle.std.proofs.Math.Bridge.{le_prop}
 use Rattle.galois.specs.Field.{Laws}
 use Rattle.galois.specs.Fields.{of_byte, of_digit, gf256, gf16}
-use Rattle.galois.specs.declared.gf256.Gf256.{Gf256}
-use Rattle.galois.specs.declared.gf16.Gf16.{Gf16}
+use Rattle.galois.specs.declared.element.Element.{Element}
 use Rattle.galois.specs.Binary.{shift, shifts}
 use Rattle.galois.specs.Galois.{each, both, at}
 use Rattle.galois.specs.Laws.{Coded, laws}
 use Rattle.galois.specs.Tables.{powers256, powers16}
 use Rattle.galois.specs.Sound.{sound256, sound16}
 
-pub same256 : (x y : Gf256) → x.bits ≡ y.bits → x ≡ y
-same256 x y e = λ i. record { bits = e i; byte = is_prop→PathP (λ i. e i < 256) (λ i. le_prop) x.byte y.byte i }
+pub same : {size : ℕ} → (x y : Element size) → x.bits ≡ y.bits → x ≡ y
+same {size} x y e = λ i. record { bits = e i; below = is_prop→PathP (λ i. e i < size) (λ i. le_prop) x.below y.below i }
 
-pub same16 : (x y : Gf16) → x.bits ≡ y.bits → x ≡ y
-same16 x y e = λ i. record { bits = e i; digit = is_prop→PathP (λ i. e i < 16) (λ i. le_prop) x.digit y.digit i }
+pub coded256 : Coded (Element 256) 256 (λ x. x.bits) of_byte
+coded256 = record { below = λ x. x.below; back = λ b. refl; same = same }
 
-pub coded256 : Coded Gf256 256 (λ x. x.bits) of_byte
-coded256 = record { below = λ x. x.byte; back = λ b. refl; same = same256 }
-
-pub coded16 : Coded Gf16 16 (λ x. x.bits) of_digit
-coded16 = record { below = λ x. x.digit; back = λ b. refl; same = same16 }
+pub coded16 : Coded (Element 16) 16 (λ x. x.bits) of_digit
+coded16 = record { below = λ x. x.below; back = λ b. refl; same = same }
 
 pub laws256 : Laws gf256
 laws256 = laws sound256 coded256

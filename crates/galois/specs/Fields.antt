@@ -3,8 +3,7 @@ use Rattle.std.specs.Prelude.{ℕ, suc, ◌-◌, ◌%◌, ◌^◌, bit_xor}
 use Rattle.std.proofs.Common.{mod-lt, lit<}
 use Rattle.galois.specs.Binary.{product}
 use Rattle.galois.specs.Field.{Arithmetic}
-use Rattle.galois.specs.declared.gf256.Gf256.{Gf256}
-use Rattle.galois.specs.declared.gf16.Gf16.{Gf16}
+use Rattle.galois.specs.declared.element.Element.{Element}
 
 -- Polynomials modulo P, of degree n + 1, over a type whose values have the numbers below 2 ^ (n + 1). Addition is exclusive or.
 abbrev pub binary_field : {F : Type 0} → ℕ → ℕ → (F → ℕ) → (ℕ → F) → Arithmetic F
@@ -19,18 +18,22 @@ binary_field n P bits of = record {
   number = bits;
 }
 
+-- The same over the elements of a size, each known by its bits.
+abbrev pub numbered : {size : ℕ} → ℕ → ℕ → (ℕ → Element size) → Arithmetic (Element size)
+numbered n P of = binary_field n P (λ x. x.bits) of
+
 -- the element of the lowest eight bits of a number
-abbrev pub of_byte : ℕ → Gf256
-of_byte b = record { bits = b % 256; byte = mod-lt b (lit< tt) }
+abbrev pub of_byte : ℕ → Element 256
+of_byte b = record { bits = b % 256; below = mod-lt b (lit< tt) }
 
 -- 285 has the bits of X^8 + X^4 + X^3 + X^2 + 1
-abbrev pub gf256 : Arithmetic Gf256
-gf256 = binary_field 7 285 (λ x. x.bits) of_byte
+abbrev pub gf256 : Arithmetic (Element 256)
+gf256 = numbered 7 285 of_byte
 
 -- the element of the lowest four bits of a number
-abbrev pub of_digit : ℕ → Gf16
-of_digit b = record { bits = b % 16; digit = mod-lt b (lit< tt) }
+abbrev pub of_digit : ℕ → Element 16
+of_digit b = record { bits = b % 16; below = mod-lt b (lit< tt) }
 
 -- 19 has the bits of X^4 + X + 1
-abbrev pub gf16 : Arithmetic Gf16
-gf16 = binary_field 3 19 (λ x. x.bits) of_digit
+abbrev pub gf16 : Arithmetic (Element 16)
+gf16 = numbered 3 19 of_digit

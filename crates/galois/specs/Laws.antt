@@ -27,7 +27,7 @@ module _ {n P order : ℕ} {log : ℕ → ℕ} (s : Sound n P order log) {F : Ty
   times_bits : (x y : F) → bits (of (product n P (suc n) (bits x) (bits y))) ≡ product n P (suc n) (bits x) (bits y)
   times_bits x y = exact _ (field.product_lt s (bits x) (bits y) (c.below x) (c.below y))
 
-  two_lt : 2 < 2 ^ suc n
+  pub two_lt : 2 < 2 ^ suc n
   two_lt = subst (λ (q : ℕ). q < 2 ^ suc n) s.two (field.shift_lt s 1 (field.one_lt s))
 
   -- alpha times an element is its shift
@@ -56,9 +56,9 @@ module _ {n P order : ℕ} {log : ℕ → ℕ} (s : Sound n P order log) {F : Ty
       ap of (ap (product n P (suc n) (bits x)) (ap bits (ey ∙ ap of eb) ∙ exact _ (field.shifts_lt s (order - a) 1 (field.one_lt s))) ∙ field.of_rest s a (bits x) ea h)
 
   -- a product with zero
-  pub of_zero : (x y : F) → (bits x ≡ 0) ⊎ ((bits x ≢ 0) × (bits y ≡ 0)) → of 0 ≡ of (product n P (suc n) (bits x) (bits y))
+  pub of_zero : (x y : F) → (bits x ≡ 0) ⊎ (bits y ≡ 0) → of 0 ≡ of (product n P (suc n) (bits x) (bits y))
   of_zero x y (inl e) = ap of (sym (ap (λ (q : ℕ). product n P (suc n) q (bits y)) e ∙ linear.product_zero n P (suc n) (bits y)))
-  of_zero x y (inr e) = ap of (sym (ap (product n P (suc n) (bits x)) e.1 ∙ field.product_by_zero s (bits x) (c.below x)))
+  of_zero x y (inr e) = ap of (sym (ap (product n P (suc n) (bits x)) e ∙ field.product_by_zero s (bits x) (c.below x)))
 
   pub laws : Laws (binary_field n P bits of)
   laws = record {

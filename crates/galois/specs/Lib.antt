@@ -8,3 +8,5 @@ pub mod Linear
 pub mod Laws
 pub mod Tables
 pub mod Sound
+pub mod Tabled
+pub mod Remainders

@@ -1,6 +1,7 @@
 -- The tables of the code, as lists: logarithms to the base alpha, with 0 at 0; powers of alpha, twice round; and products with the
 -- generator's coefficients.
 use Rattle.std.specs.Prelude.{ℕ, List, [], ◌∷◌}
+use Rattle.galois.specs.declared.cubic.Cubic.{Cubic}
 
 abbrev pub logs256 : List ℕ
 logs256 =
@@ -120,3 +121,28 @@ times_64 =
     35 ∷ 99 ∷ 163 ∷ 227 ∷ 4 ∷ 68 ∷ 132 ∷ 196 ∷ 25 ∷ 89 ∷ 153 ∷ 217 ∷ 162 ∷ 226 ∷ 34 ∷ 98 ∷ 191 ∷ 255 ∷ 63 ∷ 127 ∷ 152 ∷
     216 ∷ 24 ∷ 88 ∷ 133 ∷ 197 ∷ 5 ∷ 69 ∷ 214 ∷ 150 ∷ 86 ∷ 22 ∷ 203 ∷ 139 ∷ 75 ∷ 11 ∷ 236 ∷ 172 ∷ 108 ∷ 44 ∷ 241 ∷ 177 ∷
     113 ∷ 49 ∷ []
+
+-- the same of 16 elements: products with 15, 3, 1 and 12
+
+abbrev pub digit_times_15 : List ℕ
+digit_times_15 =
+    0 ∷ 15 ∷ 13 ∷ 2 ∷ 9 ∷ 6 ∷ 4 ∷ 11 ∷ 1 ∷ 14 ∷ 12 ∷ 3 ∷ 8 ∷ 7 ∷ 5 ∷ 10 ∷ []
+
+abbrev pub digit_times_3 : List ℕ
+digit_times_3 =
+    0 ∷ 3 ∷ 6 ∷ 5 ∷ 12 ∷ 15 ∷ 10 ∷ 9 ∷ 11 ∷ 8 ∷ 13 ∷ 14 ∷ 7 ∷ 4 ∷ 1 ∷ 2 ∷ []
+
+abbrev pub digit_times_1 : List ℕ
+digit_times_1 =
+    0 ∷ 1 ∷ 2 ∷ 3 ∷ 4 ∷ 5 ∷ 6 ∷ 7 ∷ 8 ∷ 9 ∷ 10 ∷ 11 ∷ 12 ∷ 13 ∷ 14 ∷ 15 ∷ []
+
+abbrev pub digit_times_12 : List ℕ
+digit_times_12 =
+    0 ∷ 12 ∷ 11 ∷ 7 ∷ 5 ∷ 9 ∷ 14 ∷ 2 ∷ 10 ∷ 6 ∷ 1 ∷ 13 ∷ 15 ∷ 3 ∷ 4 ∷ 8 ∷ []
+
+-- by the coefficient with which each number is multiplied
+abbrev pub products256 : Cubic (List ℕ)
+products256 = record { k3 = times_15; k2 = times_54; k1 = times_120; k0 = times_64 }
+
+abbrev pub products16 : Cubic (List ℕ)
+products16 = record { k3 = digit_times_15; k2 = digit_times_3; k1 = digit_times_1; k0 = digit_times_12 }

@@ -2,16 +2,15 @@
 #![tactic(auto)]
 
 mod cubic;
-mod gf16;
-mod gf256;
+mod element;
+mod tables;
 
 ghost use Rattle.std.specs.Prelude.{◌≡◌, ◌≤◌, true, false, MatchOption, ◌≢◌};
 ghost use Rattle.galois.specs.Field.{Arithmetic, Inverse, Laws};
 ghost use Rattle.galois.specs.Roots.{Leaves};
 
 pub use cubic::Cubic;
-pub use gf16::Gf16;
-pub use gf256::Gf256;
+pub use element::{Element, Gf16, Gf256};
 use std::ops::{Add, Mul};
 
 /// A field says by `field` what its operations are, and shows by `laws` that they are those of a field.
