@@ -6,7 +6,7 @@ ghost use Rattle.reed_solomon.specs.Errors.{altered, determinant, quadratic};
 
 use crate::record::MendRecord;
 use crate::roots::{Locator, Trinomial, find_root};
-use crate::syndromes::{Syndromes, all_zero, syndromes_of};
+use crate::syndromes::{Syndromes, syndromes_of};
 use galois::Field;
 
 // The code's shortest words: one data symbol and four check symbols.
@@ -18,35 +18,6 @@ fn alter<F: Field>(word: &mut [F], place: usize, by: F)
     ensures { word.new ≡ altered F.field word.old place by }
 {
     word[place] = word[place] + by;
-}
-
-// Whether one error at the locator `x` explains the last three syndromes: each times `x` is the next.
-fn is_sole_locator<F: Field>(s: Syndromes<F>, x: F) -> bool
-    ensures yes { result ≡ true → (F.field.times s.s1 x ≡ s.s2) × (F.field.times s.s2 x ≡ s.s3) }
-    ensures no { result ≡ false → (F.field.times s.s1 x ≡ s.s2) × (F.field.times s.s2 x ≡ s.s3) → ⊥ }
-{
-    (s.s1 * x).equals(s.s2) && (s.s2 * x).equals(s.s3)
-}
-
-// The quadratic whose roots are the locators of two errors.
-fn quadratic_of<F: Field>(s: Syndromes<F>) -> Trinomial<F>
-    ensures square { result.square ≡ F.field.plus (F.field.times s.s0 s.s2) (F.field.times s.s1 s.s1) }
-    ensures linear { result.linear ≡ F.field.plus (F.field.times s.s0 s.s3) (F.field.times s.s1 s.s2) }
-    ensures constant { result.constant ≡ F.field.plus (F.field.times s.s1 s.s3) (F.field.times s.s2 s.s2) }
-{
-    Trinomial {
-        square: s.s0 * s.s2 + s.s1 * s.s1,
-        linear: s.s0 * s.s3 + s.s1 * s.s2,
-        constant: s.s1 * s.s3 + s.s2 * s.s2,
-    }
-}
-
-// What to add at the place of locator `x`, where `y` is the other's.
-fn error_at<F: Field>(s: Syndromes<F>, x: F, y: F) -> F
-    requires { x ≢ y }
-    ensures { F.field.times result (F.field.plus x y) ≡ F.field.plus (F.field.times s.s0 y) s.s1 }
-{
-    (s.s0 * y + s.s1) * (x + y).inverse()
 }
 
 // Mends one place: the only one whose locator takes each syndrome to the next.
@@ -68,7 +39,7 @@ fn mend_one<F: Field>(word: &mut [F], s: Syndromes<F>) -> Option<MendRecord>
         constant: s.s1,
     };
     let root = find_root(line, Locator::last(), n)?;
-    if !is_sole_locator(s, root.value) {
+    if !s.step_by(root.value) {
         return None;
     }
     let place = n - 1 - root.exponent;
@@ -88,7 +59,7 @@ fn mend_two<F: Field>(word: &mut [F], s: Syndromes<F>, t: Trinomial<F>) -> Optio
     let n = word.len();
     let later = find_root(t, Locator::last(), n)?;
     let earlier = find_root(t, later.next(), n)?;
-    let error = error_at(s, earlier.value, later.value);
+    let error = s.error_at(earlier.value, later.value);
     let other = s.s0 + error;
     let place = n - 1 - earlier.exponent;
     let second = n - 1 - later.exponent;
@@ -107,10 +78,10 @@ pub fn mend<F: Field>(word: &mut [F]) -> Option<MendRecord>
         return None;
     }
     let s = syndromes_of(word);
-    if all_zero(s) {
+    if s.are_zero() {
         return Some(MendRecord::none());
     }
-    let t = quadratic_of(s);
+    let t = s.quadratic();
     if t.square.is_zero() {
         mend_one(word, s)
     } else {

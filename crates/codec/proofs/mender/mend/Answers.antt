@@ -4,14 +4,14 @@ use Rattle.codec.proofs.Deciding.{told_clean, told_determinant, told_quadratic}
 use Rattle.codec.proofs.Answering.{mended}
 use Rattle.codec.proofs.mender.mend.Goals as goal
 
-pub returns-then-all_zero : goal.returns-then-all_zero
-returns-then-all_zero g c =
+pub returns-then-are_zero : goal.returns-then-are_zero
+returns-then-are_zero g c =
     let K = g.F.Field.field in
     let m = g.met.F.Field in
     let w = c.args.word.now in
     let short : length w ≤ K.order = omega (arith, c.if-n-order.false, c.order.ensures) in
     mended K m.laws w w (Some c.none.result) (
-      told_clean K m.laws w c.if-n-lt-SHORTEST.false short c.syndromes_of-s.result c.syndromes_of-s.ensures (c.all_zero.ensures.yes c.if-all_zero.true),
+      told_clean K m.laws w c.if-n-lt-SHORTEST.false short c.syndromes_of-s.result c.syndromes_of-s.ensures (c.are_zero.ensures.yes c.if-are_zero.true),
       names_none c.none.result c.none.ensures.0 ∙ sym (differing_none K m.laws w),
     )
 
@@ -25,8 +25,8 @@ mend_one-requires g c =
       long = c.if-n-lt-SHORTEST.false;
       short = short;
       told = c.syndromes_of-s.ensures;
-      unclean = c.all_zero.ensures.no c.if-all_zero.false;
-      singular = sym (told_determinant K m.laws w c.if-n-lt-SHORTEST.false short c.syndromes_of-s.result c.syndromes_of-s.ensures _ c.quadratic_of-t.ensures.square) ∙ c.is_zero.ensures.yes c.if-is_zero.true;
+      unclean = c.are_zero.ensures.no c.if-are_zero.false;
+      singular = sym (told_determinant K m.laws w c.if-n-lt-SHORTEST.false short c.syndromes_of-s.result c.syndromes_of-s.ensures _ c.quadratic-t.ensures.square) ∙ c.is_zero.ensures.yes c.if-is_zero.true;
     }
 
 pub mend_two-requires : goal.mend_two-requires
@@ -39,8 +39,8 @@ mend_two-requires g c =
       long = c.if-n-lt-SHORTEST.false;
       short = short;
       told = c.syndromes_of-s.ensures;
-      regular = λ e. c.is_zero.ensures.no c.if-is_zero.false (told_determinant K m.laws w c.if-n-lt-SHORTEST.false short c.syndromes_of-s.result c.syndromes_of-s.ensures _ c.quadratic_of-t.ensures.square ∙ e);
-      shape = told_quadratic K m.laws w c.if-n-lt-SHORTEST.false short c.syndromes_of-s.result c.syndromes_of-s.ensures c.quadratic_of-t.result c.quadratic_of-t.ensures.square c.quadratic_of-t.ensures.linear c.quadratic_of-t.ensures.constant;
+      regular = λ e. c.is_zero.ensures.no c.if-is_zero.false (told_determinant K m.laws w c.if-n-lt-SHORTEST.false short c.syndromes_of-s.result c.syndromes_of-s.ensures _ c.quadratic-t.ensures.square ∙ e);
+      shape = told_quadratic K m.laws w c.if-n-lt-SHORTEST.false short c.syndromes_of-s.result c.syndromes_of-s.ensures c.quadratic-t.result c.quadratic-t.ensures.square c.quadratic-t.ensures.linear c.quadratic-t.ensures.constant;
     }
 
 pub returns-then-is_zero : goal.returns-then-is_zero

@@ -22,13 +22,13 @@ returns-in_err-root g c =
           c.zero.result c.zero.ensures (λ k l h e. c.in_err-root.ensures k (omega (arith, c.last.ensures.exponent)) h e),
     )
 
-pub returns-then-not-is_sole_locator : goal.returns-then-not-is_sole_locator
-returns-then-not-is_sole_locator g c =
+pub returns-then-not-step_by : goal.returns-then-not-step_by
+returns-then-not-step_by g c =
     let m = g.met.F.Field in
     let found = c.in_ok-root.ensures in (
       refl,
       one_wrong g.F.Field.field m.laws c.args.word.now c.requires.long c.requires.short c.args.s c.requires.told c.requires.unclean c.requires.singular
-          c.zero.result _ c.zero.ensures found.root (c.is_sole_locator.ensures.no c.if-not-is_sole_locator.true),
+          c.zero.result _ c.zero.ensures found.root (c.step_by.ensures.no c.if-not-step_by.true),
     )
 
 pub returns : goal.returns
@@ -40,7 +40,7 @@ returns g c =
     let e = c.in_ok-root.root.exponent in
     let p = length w - 1 - e in
     let found = c.in_ok-root.ensures in
-    let steps = c.is_sole_locator.ensures.yes c.if-not-is_sole_locator.false in
+    let steps = c.step_by.ensures.yes c.if-not-step_by.false in
     let nonzero = c.is_zero.ensures.no c.if-is_zero.false in
     let inside : length w - 1 - e < length w = omega (arith, found.below) in
     let near = one_right K m.laws w c.requires.long c.requires.short s c.requires.told c.zero.result c.in_ok-root.root.value e
