@@ -6,7 +6,7 @@ use Rattle.galois.specs.Field.{Arithmetic, Laws}
 use Rattle.galois.specs.Fields.{gf256, of_byte}
 use Rattle.galois.specs.declared.cubic.Cubic.{Cubic}
 use Rattle.galois.specs.Elements.{laws256}
-use Rattle.galois.proofs.Remainders.{row256, left256}
+use Rattle.galois.specs.Remainders.{row256, left256}
 use Rattle.reed_solomon.specs.Code.{Coded}
 use Rattle.codec.specs.Check.{symbols, Checks}
 use Rattle.codec.proofs.Dividing.{some_checks}

@@ -2,7 +2,7 @@
 use Rattle.std.proofs.Common.{◌≡◌, ℕ, ◌+◌, List, [], ◌∷◌, ◌++◌, map, length, take, drop, set, Ok, sym, refl, ap, ◌∙◌, subst, append_assoc, arith, length-set, take-append-drop, take_all, take-suc-set, take_at}
 use Rattle.std.proofs.lemmas.List.{length-map, map-append, take-map}
 use Rattle.galois.specs.Fields.{gf16}
-use Rattle.galois.specs.declared.gf16.Gf16.{Gf16}
+use Rattle.galois.specs.declared.element.Element.{Element}
 use Rattle.galois.specs.declared.cubic.Cubic.{Cubic}
 use Rattle.galois.specs.Elements.{laws16}
 use Rattle.reed_solomon.specs.Code.{Coded}
@@ -29,7 +29,7 @@ four_set l digits a b c d size front =
     ∙ simp append_assoc
 
 -- the digits, and the check symbols of the word that they are the numbers of, are the label, and the only one
-pub label_made : (digits before after : List ℕ) (w : List Gf16) (c : Cubic Gf16) → length digits ≡ 11 → length before ≡ 15 →
+pub label_made : (digits before after : List ℕ) (w : List (Element 16)) (c : Cubic (Element 16)) → length digits ≡ 11 → length before ≡ 15 →
     map gf16.number w ≡ digits → Checks gf16 w c → after ≡ digits ++ map gf16.number (symbols c) → LabelMade digits before after (Ok tt)
 label_made digits before after w c ld lb e checks is = record {
   wrong_digits = λ ne. absurd (ne ld);
