@@ -10,6 +10,3 @@ module _ {F : Type 0} {k : Arithmetic F} (m : Laws k) where
   pub same_of_sum : (x y : F) → k.plus x y ≡ k.zero → x ≡ y
   same_of_sum x y e =
       sym (plus_zero x) ∙ ap (k.plus x) (sym e) ∙ sym (m.plus_assoc x x y) ∙ ap (λ (z : F). k.plus z y) (m.plus_self x) ∙ m.zero_plus y
-
-  pub sum_of_same : (x y : F) → x ≡ y → k.plus x y ≡ k.zero
-  sum_of_same x y e = ap (k.plus x) (sym e) ∙ m.plus_self x

@@ -15,33 +15,29 @@ returns-then-are_zero g c =
       names_none c.none.result c.none.ensures.0 ∙ sym (differing_none K m.laws w),
     )
 
-pub mend_one-requires : goal.mend_one-requires
-mend_one-requires g c =
+pub mend_one-requires-clause-singular : goal.mend_one-requires-clause-singular
+mend_one-requires-clause-singular g c =
     let K = g.F.Field.field in
-    let m = g.met.F.Field in
     let w = c.args.word.now in
     let short : length w ≤ K.order = omega (arith, c.if-n-order.false, c.order.ensures) in
-    record {
-      long = c.if-n-lt-SHORTEST.false;
-      short = short;
-      told = c.syndromes_of-s.ensures;
-      unclean = c.are_zero.ensures.no c.if-are_zero.false;
-      singular = sym (told_determinant K m.laws w c.if-n-lt-SHORTEST.false short c.syndromes_of-s.result c.syndromes_of-s.ensures _ c.quadratic-t.ensures.square) ∙ c.is_zero.ensures.yes c.if-is_zero.true;
-    }
+    sym (told_determinant K g.met.F.Field.laws w c.if-n-lt-SHORTEST.false short c.syndromes_of-s.result c.syndromes_of-s.ensures _ c.quadratic-t.ensures.square)
+    ∙ c.is_zero.ensures.yes c.if-is_zero.true
 
-pub mend_two-requires : goal.mend_two-requires
-mend_two-requires g c =
+pub mend_two-requires-clause-regular : goal.mend_two-requires-clause-regular
+mend_two-requires-clause-regular g c = λ e.
     let K = g.F.Field.field in
-    let m = g.met.F.Field in
     let w = c.args.word.now in
     let short : length w ≤ K.order = omega (arith, c.if-n-order.false, c.order.ensures) in
-    record {
-      long = c.if-n-lt-SHORTEST.false;
-      short = short;
-      told = c.syndromes_of-s.ensures;
-      regular = λ e. c.is_zero.ensures.no c.if-is_zero.false (told_determinant K m.laws w c.if-n-lt-SHORTEST.false short c.syndromes_of-s.result c.syndromes_of-s.ensures _ c.quadratic-t.ensures.square ∙ e);
-      shape = told_quadratic K m.laws w c.if-n-lt-SHORTEST.false short c.syndromes_of-s.result c.syndromes_of-s.ensures c.quadratic-t.result c.quadratic-t.ensures.square c.quadratic-t.ensures.linear c.quadratic-t.ensures.constant;
-    }
+    c.is_zero.ensures.no c.if-is_zero.false
+    (told_determinant K g.met.F.Field.laws w c.if-n-lt-SHORTEST.false short c.syndromes_of-s.result c.syndromes_of-s.ensures _ c.quadratic-t.ensures.square ∙ e)
+
+pub mend_two-requires-clause-shape : goal.mend_two-requires-clause-shape
+mend_two-requires-clause-shape g c =
+    let K = g.F.Field.field in
+    let w = c.args.word.now in
+    let short : length w ≤ K.order = omega (arith, c.if-n-order.false, c.order.ensures) in
+    told_quadratic K g.met.F.Field.laws w c.if-n-lt-SHORTEST.false short c.syndromes_of-s.result c.syndromes_of-s.ensures c.quadratic-t.result
+    c.quadratic-t.ensures.square c.quadratic-t.ensures.linear c.quadratic-t.ensures.constant
 
 pub returns-then-is_zero : goal.returns-then-is_zero
 returns-then-is_zero g c = mended g.F.Field.field g.met.F.Field.laws _ _ c.mend_one.result c.mend_one.ensures

@@ -26,14 +26,6 @@ returns-in_err-earlier g c =
           (λ k l h e. c.in_err-earlier.ensures k (omega (arith, c.next.ensures.exponent)) h e),
     )
 
-pub error_at-error-requires : goal.error_at-error-requires
-error_at-error-requires g c = λ same.
-    let later = c.in_ok-later.ensures in
-    let earlier = c.in_ok-earlier.ensures in
-    let exponents = g.met.F.Field.laws.powers_differ c.in_ok-earlier.earlier.exponent c.in_ok-later.later.exponent
-    (omega (arith, earlier.below, c.requires.short)) (omega (arith, later.below, c.requires.short)) (sym earlier.is ∙ same ∙ later.is) in
-    omega (arith, exponents, earlier.from, c.next.ensures.exponent)
-
 pub returns : goal.returns
 returns g c =
     let K = g.F.Field.field in

@@ -1,14 +1,10 @@
-use Rattle.std.proofs.Common.{sym, refl, ap, ◌∙◌, add-one}
+use Rattle.std.proofs.Common.{sym, ap, ◌∙◌, add-one}
 use Rattle.galois.specs.Field.{power}
 use Rattle.reed_solomon.proofs.Clauses.{power_suc}
 use Rattle.codec.proofs.roots.Locator.next.Goals as goal
 
-pub returns : goal.returns
-returns g c =
+pub returns-clause-is : goal.returns-clause-is
+returns-clause-is g c =
     let K = g.F.Field.field in
     let e = c.args.self.exponent in
-    record {
-      is = c.times_alpha.ensures ∙ ap (K.times K.alpha) c.requires.is ∙ sym (power_suc K K.alpha e) ∙ ap (power K K.alpha) (sym (add-one e));
-      exponent = refl;
-      value = c.times_alpha.ensures;
-    }
+    c.times_alpha.ensures ∙ ap (K.times K.alpha) c.requires.is ∙ sym (power_suc K K.alpha e) ∙ ap (power K K.alpha) (sym (add-one e))
