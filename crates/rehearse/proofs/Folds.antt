@@ -36,12 +36,6 @@ offers_behind s t n e =
     ap (λ r. r ++ (Offer n ∷ [])) e ∙ append_assoc s (map Offer (range_with_len 0 n)) (Offer n ∷ [])
     ∙ ap (λ r. s ++ r) (ap (λ k. map Offer (range_with_len 0 n) ++ (Offer k ∷ [])) (sym (zero-add n)) ∙ sym (offers_on 0 n) ∙ ap (λ k. map Offer (range_with_len 0 k)) (sym (add-one n)))
 
--- A word that begins with `0x` is read behind it.
-pub number_hex : (w : List ℕ) → 2 ≤ length w → get_or w 0 0 ≡ 48 → get_or w 1 0 ≡ 120 → number_in 16 (take (length w - 2) (drop 2 w)) ≡ number_of w
-number_hex w h zero-char x-char =
-    let rest = take_all (length w - 2) (drop 2 w) (omega (arith, length-drop 2 w)) in
-    rw rest (rw (le-leb 2 (length w) h) (rw zero-char (rw x-char refl)))
-
 -- Where a field begins there is one.
 pub field_is : (b : Bool) (n : ℕ) → is_some (cond b (Some n) None) ≡ true → b ≡ true
 field_is true n h = refl

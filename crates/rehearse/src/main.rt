@@ -19,7 +19,7 @@ use numbers::number;
 use rehearsal::rehearse;
 use script::{Command, parse_line};
 use sender::Sender;
-use std::alloc::{AllocFailed, Global};
+use std::alloc::{AllocError, Global};
 use std::io::{BufRead, BufReader, Write};
 use std::process::ExitCode;
 use std::{env, fs};
@@ -29,7 +29,7 @@ use transfer::Step;
 const LINES: usize = 212;
 
 // Adds an offer of every line in turn.
-fn add_offers(steps: &mut Vec<Step>) -> Result<(), AllocFailed<Step>>
+fn add_offers(steps: &mut Vec<Step>) -> Result<(), AllocError>
     ensures { elim result [ Ok _ ↦ steps.new.items ≡ steps.old.items ++ all_offers | Err _ ↦ Unit {0} ] }
 {
     for line in 0..LINES {
@@ -39,12 +39,12 @@ fn add_offers(steps: &mut Vec<Step>) -> Result<(), AllocFailed<Step>>
 }
 
 // Adds the steps of a command.
-fn add_steps(steps: &mut Vec<Step>, command: Command) -> Result<(), AllocFailed<Step>>
+fn add_steps(steps: &mut Vec<Step>, command: Command) -> Result<(), AllocError>
     ensures { elim result [ Ok _ ↦ steps.new.items ≡ steps.old.items ++ steps_of command | Err _ ↦ Unit {0} ] }
 {
     match command {
         Command::Pass => Ok(()),
-        Command::One(step) => steps.push(step),
+        Command::One(step) => Ok(steps.push(step)?),
         Command::OfferAll => add_offers(steps),
     }
 }
@@ -71,22 +71,15 @@ fn blocks_of(rt: &HostRuntime, path: Option<String>) -> Result<Vec<u8>, Fault> {
     let Some(path) = path else {
         return Ok(sample_blocks(rt.alloc())?);
     };
-    match fs::read(rt, path.as_str()) {
-        Ok(bytes) => Ok(bytes),
-        Err(error) => Err(Fault::Unread(error)),
-    }
+    fs::read(rt, path.as_str()).map_err(Fault::Unread)
 }
 
 // The rate and the field that two words name.
 fn field_of(rate: &str, field: &str) -> Result<(usize, usize), Fault>
     ensures { elim result [ Ok named ↦ is_field named.0 named.1 ≡ true | Err _ ↦ Unit {0} ] }
 {
-    let Ok(rate) = number(rate.as_bytes()) else {
-        return Err(Fault::Rate);
-    };
-    let Ok(field) = number(field.as_bytes()) else {
-        return Err(Fault::Field);
-    };
+    let rate = number(rate.as_bytes()).map_err(|_| Fault::Rate)?;
+    let field = number(field.as_bytes()).map_err(|_| Fault::Field)?;
     if field_start(rate, 0).is_none() {
         return Err(Fault::Rate);
     }

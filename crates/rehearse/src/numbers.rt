@@ -20,10 +20,10 @@ fn digit(character: u8) -> Option<u8>
 fn with_digit(base: u8, number: usize, digit: u8) -> Result<usize, Wrong>
     ensures { result ≡ fitting (number * base + digit) }
 {
-    match number.checked_mul(usize::from(base)) {
-        Some(shifted) => shifted.checked_add(usize::from(digit)).ok_or(Wrong::Range),
-        None => Err(Wrong::Range),
-    }
+    number
+        .checked_mul(usize::from(base))
+        .and_then(|shifted| shifted.checked_add(usize::from(digit)))
+        .ok_or(Wrong::Range)
 }
 
 // The same with a character, where there was no fault before it.
@@ -51,24 +51,19 @@ fn number_in(base: u8, digits: &[u8]) -> Result<usize, Wrong>
     number
 }
 
-// A number that a word writes.
+/// A number that a word writes.
 pub fn number(word: &[u8]) -> Result<usize, Wrong>
     ensures { result ≡ number_of word.now }
 {
-    if word.len() >= 2 && word[0] == b'0' && word[1] == b'x' {
-        number_in(16, &word[2..])
-    } else {
-        number_in(10, word)
+    match word {
+        [b'0', b'x', digits @ ..] => number_in(16, digits),
+        _ => number_in(10, word),
     }
 }
 
-// The same in sixteen bits.
+/// The same in sixteen bits.
 pub fn number16(word: &[u8]) -> Result<u16, Wrong>
     ensures { result ≡ narrow (number_of word.now) }
 {
-    let wide = number(word)?;
-    if wide > 65535 {
-        return Err(Wrong::Range);
-    }
-    Ok(wide as u16)
+    u16::try_from(number(word)?).map_err(|_| Wrong::Range)
 }

@@ -4,25 +4,18 @@ ghost use Rattle.rehearse.specs.Numbers.{narrow, number_of};
 ghost use Rattle.rehearse.specs.Script.{write_of};
 
 use crate::numbers::{number, number16};
-use std::fmt;
+use thiserror::Error;
 use transfer::Step;
 
 /// What is wrong with a line.
-#[derive(Clone, Copy)]
+#[derive(Clone, Copy, Debug, Error)]
 pub enum Wrong {
+    #[error("not a command")]
     Command,
+    #[error("not a number")]
     Number,
+    #[error("a number that does not fit")]
     Range,
-}
-
-impl fmt::Display for Wrong {
-    fn fmt<W: fmt::Write>(&self, f: &mut fmt::Formatter<W>) -> fmt::Result {
-        match self {
-            Wrong::Command => write!(f, "not a command"),
-            Wrong::Number => write!(f, "not a number"),
-            Wrong::Range => write!(f, "a number that does not fit"),
-        }
-    }
 }
 
 /// What a line asks for.
@@ -75,8 +68,6 @@ pub fn parse_line(line: &[u8]) -> Result<Command, Wrong> {
     if let [b'#', ..] = line {
         return Ok(Command::Pass);
     }
-    match std::str::from_utf8(line) {
-        Ok(text) => parse_words(text),
-        Err(_) => Err(Wrong::Command),
-    }
+    let text = std::str::from_utf8(line).map_err(|_| Wrong::Command)?;
+    parse_words(text)
 }
