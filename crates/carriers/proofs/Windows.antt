@@ -4,7 +4,7 @@ use Rattle.std.proofs.lemmas.Bool.{cases_Bool}
 use Rattle.std.proofs.lemmas.Bool.Decides.{nat_tests}
 use Rattle.denial.specs.declared.Denial.{Denial}
 use Rattle.carriers.specs.Meaning.{has, lacking, Meaning, only, written}
-use Rattle.carriers.specs.Rates.{is_field, start_of, WindowFits}
+use Rattle.carriers.specs.Rates.{beside, is_field, seen, start_of, WindowFits}
 use Rattle.carriers.proofs.Meanings.{refused_same, same_meaning}
 
 abbrev view : Bool → ℕ → Meaning → Meaning
@@ -36,27 +36,19 @@ module _ (s : ℕ) (m : Meaning) (line word value : ℕ) (low : line ≤ 211) wh
 
   -- A write below is a write through the window.
   view_written : view true s (written m (s + line) word value) ≡ written (view true s m) line word value
-  view_written = same_meaning refl refl (λ l w. go l w (cases_Bool (eqb l line && eqb w word)) (cases_Bool (has (view true s m) l w)))
+  view_written = same_meaning refl refl (λ l w. go l w (cases_Bool (eqb l line && eqb w word)))
     where
       go : (l w : ℕ) → ((eqb l line && eqb w word) ≡ true) ⊎ ((eqb l line && eqb w word) ≡ false) →
-          (has (view true s m) l w ≡ true) ⊎ (has (view true s m) l w ≡ false) →
           (view true s (written m (s + line) word value)).word l w ≡ (written (view true s m) line word value).word l w
-      go l w (inl e) (inl h) = grind (arith, nat_tests, there)
-      go l w (inl e) (inr h) = grind (arith, nat_tests, there)
-      go l w (inr e) (inl h) = grind (arith, nat_tests)
-      go l w (inr e) (inr h) = grind (arith, nat_tests)
+      go l w (inl e) = grind (arith, nat_tests, there)
+      go l w (inr e) = grind (arith, nat_tests)
 
   -- What the window does not show is as it was.
   hidden_written : hidden true s (written m (s + line) word value) ≡ hidden true s m
-  hidden_written = same_meaning refl refl (λ l w. go l w (cases_Bool (leb s l && ltb l (s + 212))))
-    where
-      go : (l w : ℕ) → ((leb s l && ltb l (s + 212)) ≡ true) ⊎ ((leb s l && ltb l (s + 212)) ≡ false) →
-          (hidden true s (written m (s + line) word value)).word l w ≡ (hidden true s m).word l w
-      go l w (inl h) = rw h
-      go l w (inr h) = let far : eqb l (s + line) ≡ false = grind (arith, nat_tests) in rw h (grind (arith, nat_tests))
+  hidden_written = same_meaning refl refl (λ l w. grind (arith, nat_tests))
 
 -- A write to a line that the window has.
-pub writes : (o : Bool) (s : ℕ) (m n : Meaning) (below line word value : ℕ) → Ok below ≡ told o s line word → n ≡ written m below word value →
+writes : (o : Bool) (s : ℕ) (m n : Meaning) (below line word value : ℕ) → Ok below ≡ told o s line word → n ≡ written m below word value →
     (view o s n ≡ written (view o s m) line word value) × (hidden o s n ≡ hidden o s m)
 writes true s m n below line word value is after =
     let low : line ≤ 211 = grind (arith, nat_tests) in
@@ -65,10 +57,20 @@ writes true s m n below line word value is after =
     (ap (view true s) after' ∙ view_written s m line word value low, ap (hidden true s) after' ∙ hidden_written s m line word value low)
 writes false s m n below line word value is after = absurd (cc)
 
+pub seen_written : (rate field : ℕ) (m n : Meaning) (below line word value : ℕ) → Ok below ≡ told (is_field rate field) (start_of rate field) line word →
+    n ≡ written m below word value → seen rate field n ≡ written (seen rate field m) line word value
+seen_written rate field m n below line word value is after =
+    (writes (is_field rate field) (start_of rate field) m n below line word value is after).0
+
+pub beside_written : (rate field : ℕ) (m n : Meaning) (below line word value : ℕ) → Ok below ≡ told (is_field rate field) (start_of rate field) line word →
+    n ≡ written m below word value → beside rate field n ≡ beside rate field m
+beside_written rate field m n below line word value is after =
+    (writes (is_field rate field) (start_of rate field) m n below line word value is after).1
+
 -- A write to a line that the window lacks.
-pub lacks : (o : Bool) (s : ℕ) (m : Meaning) (line word value : ℕ) (d : Denial) → Err d ≡ told o s line word →
-    view o s m ≡ written (view o s m) line word value
-lacks o s m line word value d is =
-    let out : (o && leb line 211) ≡ false = grind (arith, nat_tests) in
-    let no : has (view o s m) line word ≡ false = rw (view_has, out) in
-    refused_same (view o s m) line word value (rw no)
+pub seen_kept : (rate field : ℕ) (m : Meaning) (line word value : ℕ) (d : Denial) → Err d ≡ told (is_field rate field) (start_of rate field) line word →
+    seen rate field m ≡ written (seen rate field m) line word value
+seen_kept rate field m line word value d is =
+    let out : (is_field rate field && leb line 211) ≡ false = grind (arith, nat_tests) in
+    let no : has (seen rate field m) line word ≡ false = view_has (is_field rate field) (start_of rate field) m line word ∙ ap (λ b. b && has m (start_of rate field + line) word) out in
+    refused_same (seen rate field m) line word value (rw no)

@@ -31,6 +31,7 @@ impl<'a> WritableCarrier for Sheet<'a> {
 
     ghost rest = { λ s. (s.first, s.words.ghost_name, length s.words.now, behind 1440 s.first s.words.now) };
 
+    #[tactic(auto, using(crate::proofs::Meanings::sheet_written))]
     fn write(&mut self, line: usize, word: usize, value: u16) -> Result<(), Denial> {
         let place = place_for(self.first, self.words.len() / LINE, line, word, value)?;
         self.words[place] = value;
