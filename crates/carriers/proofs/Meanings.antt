@@ -1,27 +1,17 @@
 -- Equal meanings, and writes into runs.
-use Rattle.std.proofs.Common.{◌≡◌, ℕ, ◌-◌, ◌*◌, ◌/◌, ◌<◌, ◌≤◌, true, false, ◌&&◌, eqb, ltb, leb, ◌≢◌, ◌⊎◌, List, length, get_or, set, Ok, refl, inl, inr, arith, length-set, get_or-set_other, get_or-set_same}
-use Rattle.std.proofs.lemmas.Bool.{cases_Bool}
+use Rattle.std.proofs.Common.{◌≡◌, ℕ, ◌/◌, ◌<◌, ◌≢◌, List, length, get_or, set, Ok, refl, arith, length-set, get_or-set_other, get_or-set_same}
 use Rattle.std.proofs.lemmas.Bool.Decides.{nat_tests}
-use Rattle.carriers.specs.Meaning.{accepts, Meaning, written}
-use Rattle.carriers.specs.Runs.{end_of, place_for, place_in, run, sheet}
+use Rattle.carriers.specs.Meaning.{Meaning, written}
+use Rattle.carriers.specs.Runs.{place_for, place_in, run, sheet}
 
 pub same_meaning : {m n : Meaning} → m.first ≡ n.first → m.end ≡ n.end → ((l w : ℕ) → m.word l w ≡ n.word l w) → m ≡ n
 same_meaning f e g = λ i. record { first = f i; end = e i; word = λ l w. g l w i }
 
--- A refused write changes nothing.
-pub refused_same : (m : Meaning) (line word value : ℕ) → accepts m line word value ≡ false → m ≡ written m line word value
-refused_same m line word value h = same_meaning refl refl (λ l w. rw h)
-
-module _ (first lines line word value place : ℕ) (old new : ℕ → ℕ) (is : Ok place ≡ place_for first lines line word value)
-    (here : new place ≡ value) (there : (k : ℕ) → k ≢ place → new k ≡ old k) where
-  at_place : (l w : ℕ) → ((eqb l line && eqb w word) ≡ true) ⊎ ((eqb l line && eqb w word) ≡ false) →
-      (run first lines new).word l w ≡ (written (run first lines old) line word value).word l w
-  at_place l w (inl e) = grind (arith, nat_tests)
-  at_place l w (inr e) = grind (arith, nat_tests, there (place_in first l w))
-
-  -- One number of a run is set, at a place that it has.
-  pub run_written : run first lines new ≡ written (run first lines old) line word value
-  run_written = same_meaning refl refl (λ l w. at_place l w (cases_Bool (eqb l line && eqb w word)))
+-- One number of a run is set, at a place that it has.
+pub run_written : (first lines line word value place : ℕ) (old new : ℕ → ℕ) → Ok place ≡ place_for first lines line word value → new place ≡ value →
+    ((k : ℕ) → k ≢ place → new k ≡ old k) → run first lines new ≡ written (run first lines old) line word value
+run_written first lines line word value place old new is here there =
+    same_meaning refl refl (λ l w. grind (arith, nat_tests, there (place_in first l w)))
 
 -- The numbers of a run stand in a list.
 pub list_written : (first lines : ℕ) (words : List ℕ) (line word value place : ℕ) → Ok place ≡ place_for first lines line word value → place < length words →

@@ -1,11 +1,10 @@
 -- What a write to the carrier below does to what a window over it shows and hides.
-use Rattle.std.proofs.Common.{◌≡◌, ℕ, ◌+◌, true, false, cond, ◌&&◌, eqb, leb, ◌⊎◌, Ok, Err, Result, refl, ap, ◌∙◌, inl, inr, arith}
-use Rattle.std.proofs.lemmas.Bool.{cases_Bool}
+use Rattle.std.proofs.Common.{◌≡◌, ℕ, ◌+◌, cond, ◌&&◌, leb, Ok, Err, Result, refl, ap, ◌∙◌, arith}
 use Rattle.std.proofs.lemmas.Bool.Decides.{nat_tests}
 use Rattle.denial.specs.declared.Denial.{Denial}
-use Rattle.carriers.specs.Meaning.{has, lacking, Meaning, written}
+use Rattle.carriers.specs.Meaning.{lacking, Meaning, written}
 use Rattle.carriers.specs.Rates.{beside, is_field, seen, start_of}
-use Rattle.carriers.proofs.Meanings.{refused_same, same_meaning}
+use Rattle.carriers.proofs.Meanings.{same_meaning}
 
 -- The answer to which line below is the window's.
 abbrev told : ℕ → ℕ → ℕ → ℕ → Result ℕ Denial
@@ -14,12 +13,7 @@ told rate field line word = cond (is_field rate field && leb line 211) (Ok (star
 -- A write to a line that the window has.
 module _ (rate field : ℕ) (m n : Meaning) (below line word value : ℕ) (is : Ok below ≡ told rate field line word) (after : n ≡ written m below word value) where
   pub seen_written : seen rate field n ≡ written (seen rate field m) line word value
-  seen_written = ap (seen rate field) after ∙ same_meaning refl refl (λ l w. go l w (cases_Bool (eqb l line && eqb w word)))
-    where
-      go : (l w : ℕ) → ((eqb l line && eqb w word) ≡ true) ⊎ ((eqb l line && eqb w word) ≡ false) →
-          (seen rate field (written m below word value)).word l w ≡ (written (seen rate field m) line word value).word l w
-      go l w (inl e) = grind (arith, nat_tests)
-      go l w (inr e) = grind (arith, nat_tests)
+  seen_written = ap (seen rate field) after ∙ same_meaning refl refl (λ l w. grind (arith, nat_tests))
 
   pub beside_written : beside rate field n ≡ beside rate field m
   beside_written = ap (beside rate field) after ∙ same_meaning refl refl (λ l w. grind (arith, nat_tests))
@@ -27,6 +21,4 @@ module _ (rate field : ℕ) (m n : Meaning) (below line word value : ℕ) (is : 
 -- A write to a line that the window lacks.
 pub seen_kept : (rate field : ℕ) (m : Meaning) (line word value : ℕ) (d : Denial) → Err d ≡ told rate field line word →
     seen rate field m ≡ written (seen rate field m) line word value
-seen_kept rate field m line word value d is =
-    let no : has (seen rate field m) line word ≡ false = grind (arith, nat_tests) in
-    refused_same (seen rate field m) line word value (rw no)
+seen_kept rate field m line word value d is = same_meaning refl refl (λ l w. grind (arith, nat_tests))
