@@ -16,6 +16,7 @@ fn pair_at(bytes: &[u8], byte: usize) -> u16
 }
 
 /// Word `place` of a run of bytes.
+#[tactic(auto, using(crate::proofs::Bits::word_in_pair))]
 pub fn word_at(bytes: &[u8], place: usize) -> u16
     requires within { 10 * place + 10 ≤ 8 * length bytes.now }
     ensures { result ≡ word_at bytes.now place }
@@ -25,6 +26,7 @@ pub fn word_at(bytes: &[u8], place: usize) -> u16
 }
 
 // `pair` with `value` in the ten bits from bit `shift` on.
+#[tactic(auto, using(crate::proofs::Bits::joined_below, crate::proofs::Bits::joined_word, crate::proofs::Bits::joined_above))]
 fn with_word(pair: u16, shift: usize, value: u16) -> u16
     requires inside { shift ≤ 6 }
     requires narrow { value < 1024 }
