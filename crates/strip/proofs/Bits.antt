@@ -52,19 +52,21 @@ byte_of p = p + p / 4
 abbrev shift_of : ℕ → ℕ
 shift_of p = p % 4 * 2
 
-pub word_in_pair : (xs : List ℕ) (p pair : ℕ) → pair % 256 ≡ get_or xs (byte_of p) 0 → pair / 256 ≡ get_or xs (byte_of p + 1) 0 →
-    word_at xs p ≡ bit_and (pair / 2 ^ shift_of p) 1023
-word_in_pair xs p pair first second = number_is 10 xs (10 * p) word (omega (arith, and_le_r (pair / 2 ^ shift_of p) 1023)) each
+-- A word is told by its bits in the pair.
+pub word_is : (xs : List ℕ) (p pair v : ℕ) → pair % 256 ≡ get_or xs (byte_of p) 0 → pair / 256 ≡ get_or xs (byte_of p + 1) 0 → v < 1024 →
+    ((i : ℕ) → i < 10 → bit_at pair (shift_of p + i) ≡ bit_at v i) → word_at xs p ≡ v
+word_is xs p pair v first second narrow word = number_is 10 xs (10 * p) v narrow each
   where
-    word : ℕ
-    word = bit_and (pair / 2 ^ shift_of p) 1023
-
-    each : (i : ℕ) → i < 10 → bit xs (10 * p + i) ≡ bit_at word i
+    each : (i : ℕ) → i < 10 → bit xs (10 * p + i) ≡ bit_at v i
     each i h =
         let e : 10 * p + i ≡ 8 * byte_of p + (shift_of p + i) = omega arith in
-        let d : bit_at word i ≡ bit_at pair (shift_of p + i) =
-        omega (arith, bit_at_and (pair / 2 ^ shift_of p) 1023 i, bit_at_ones 10 i h, ap (λ x. x % 2) (shr-shr pair (shift_of p) i)) in
-        ap (bit xs) e ∙ pair_bit xs (byte_of p) pair first second (shift_of p + i) (omega arith) ∙ sym d
+        ap (bit xs) e ∙ pair_bit xs (byte_of p) pair first second (shift_of p + i) (omega arith) ∙ word i h
+
+pub word_in_pair : (xs : List ℕ) (p pair : ℕ) → pair % 256 ≡ get_or xs (byte_of p) 0 → pair / 256 ≡ get_or xs (byte_of p + 1) 0 →
+    word_at xs p ≡ bit_and (pair / 2 ^ shift_of p) 1023
+word_in_pair xs p pair first second =
+    word_is xs p pair (bit_and (pair / 2 ^ shift_of p) 1023) first second (omega (arith, and_le_r (pair / 2 ^ shift_of p) 1023))
+    (λ i h. omega (arith, bit_at_and (pair / 2 ^ shift_of p) 1023 i, bit_at_ones 10 i h, ap (λ x. x % 2) (shr-shr pair (shift_of p) i)))
 
 -- A pair with v in the ten bits from s on.
 module _ (pair s v : ℕ) (inside : s ≤ 6) (narrow : v < 1024) where
@@ -82,8 +84,8 @@ module _ (pair s v : ℕ) (inside : s ≤ 6) (narrow : v < 1024) where
 
   joined_bit : (i : ℕ) → i < 16 → bit_at joined i ≡ max (min (bit_at pair i) (1 - bit_at (1023 * 2 ^ s % 65536) i)) (bit_at (v * 2 ^ s % 65536) i)
   joined_bit i h =
-      bit_at_or (bit_and pair (bit_not w16 (1023 * 2 ^ s % 65536))) (v * 2 ^ s % 65536) i
-      ∙ ap (λ x. max x (bit_at (v * 2 ^ s % 65536) i)) (bit_at_and pair (bit_not w16 (1023 * 2 ^ s % 65536)) i ∙ ap (min (bit_at pair i)) (bit_at_not w16 (1023 * 2 ^ s % 65536) i (omega arith) h))
+      let mask = 1023 * 2 ^ s % 65536 in
+      omega (arith, bit_at_or (bit_and pair (bit_not w16 mask)) (v * 2 ^ s % 65536) i, bit_at_and pair (bit_not w16 mask) i, bit_at_not w16 mask i (omega arith) h)
 
   pub joined_below : (i : ℕ) → i < s → bit_at joined i ≡ bit_at pair i
   joined_below i h = omega (arith, joined_bit i (omega arith), shifted_low 1023 i (omega arith) h, shifted_low v i narrow h)
@@ -101,40 +103,32 @@ module _ (pair s v : ℕ) (inside : s ≤ 6) (narrow : v < 1024) where
 -- The two bytes of word p are set, and the number that they make differs at most in the word.
 module _ (xs ys : List ℕ) (p old new : ℕ)
     (old_first : old % 256 ≡ get_or xs (byte_of p) 0) (old_second : old / 256 ≡ get_or xs (byte_of p + 1) 0)
-    (new_first : new % 256 ≡ get_or ys (byte_of p) 0) (new_second : new / 256 ≡ get_or ys (byte_of p + 1) 0) where
-  pub put_word : (v : ℕ) → v < 1024 → ((i : ℕ) → i < 10 → bit_at new (shift_of p + i) ≡ bit_at v i) → word_at ys p ≡ v
-  put_word v narrow word = number_is 10 ys (10 * p) v narrow each
+    (new_first : new % 256 ≡ get_or ys (byte_of p) 0) (new_second : new / 256 ≡ get_or ys (byte_of p + 1) 0)
+    (rest : (k : ℕ) → k ≢ byte_of p → k ≢ byte_of p + 1 → get_or ys k 0 ≡ get_or xs k 0)
+    (below : (i : ℕ) → i < shift_of p → bit_at new i ≡ bit_at old i) (above : (i : ℕ) → shift_of p + 10 ≤ i → i < 16 → bit_at new i ≡ bit_at old i) where
+  elsewhere : (k : ℕ) → k / 8 ≢ byte_of p → k / 8 ≢ byte_of p + 1 → bit ys k ≡ bit xs k
+  unfolding bit
+  elsewhere k a b = rw (rest (k / 8) a b)
+
+  beside : (r : ℕ) → r < 16 → bit_at new r ≡ bit_at old r → bit ys (8 * byte_of p + r) ≡ bit xs (8 * byte_of p + r)
+  beside r h e = pair_bit ys (byte_of p) new new_first new_second r h ∙ e ∙ sym (pair_bit xs (byte_of p) old old_first old_second r h)
+
+  put_bit : (k : ℕ) → (k < 10 * p) ⊎ (10 * p + 10 ≤ k) → bit ys k ≡ bit xs k
+  put_bit k out = go (cases_lt (k / 8) (byte_of p)) (cases_lt (byte_of p + 1) (k / 8))
     where
-      each : (i : ℕ) → i < 10 → bit ys (10 * p + i) ≡ bit_at v i
+      go : (k / 8 < byte_of p) ⊎ (byte_of p ≤ k / 8) → (byte_of p + 1 < k / 8) ⊎ (k / 8 ≤ byte_of p + 1) → bit ys k ≡ bit xs k
+      go (inl a) b = elsewhere k (omega arith) (omega arith)
+      go (inr a) (inl b) = elsewhere k (omega arith) (omega arith)
+      go (inr a) (inr b) =
+          let r = k - 8 * byte_of p in
+          let e : 8 * byte_of p + r ≡ k = omega arith in
+          let same : bit_at new r ≡ bit_at old r = ⊎_elim (λ h. below r (omega arith)) (λ h. above r (omega arith) (omega arith)) out in
+          sym (ap (bit ys) e) ∙ beside r (omega arith) same ∙ ap (bit xs) e
+
+  pub put_others : (k : ℕ) → k ≢ p → word_at ys k ≡ word_at xs k
+  put_others k other = number_is 10 ys (10 * k) (word_at xs k) (number_below 10 xs (10 * k)) each
+    where
+      each : (i : ℕ) → i < 10 → bit ys (10 * k + i) ≡ bit_at (word_at xs k) i
       each i h =
-          let e : 10 * p + i ≡ 8 * byte_of p + (shift_of p + i) = omega arith in
-          ap (bit ys) e ∙ pair_bit ys (byte_of p) new new_first new_second (shift_of p + i) (omega arith) ∙ word i h
-
-  module _ (rest : (k : ℕ) → k ≢ byte_of p → k ≢ byte_of p + 1 → get_or ys k 0 ≡ get_or xs k 0)
-      (below : (i : ℕ) → i < shift_of p → bit_at new i ≡ bit_at old i) (above : (i : ℕ) → shift_of p + 10 ≤ i → i < 16 → bit_at new i ≡ bit_at old i) where
-    elsewhere : (k : ℕ) → k / 8 ≢ byte_of p → k / 8 ≢ byte_of p + 1 → bit ys k ≡ bit xs k
-    unfolding bit
-    elsewhere k a b = rw (rest (k / 8) a b)
-
-    beside : (r : ℕ) → r < 16 → bit_at new r ≡ bit_at old r → bit ys (8 * byte_of p + r) ≡ bit xs (8 * byte_of p + r)
-    beside r h e = pair_bit ys (byte_of p) new new_first new_second r h ∙ e ∙ sym (pair_bit xs (byte_of p) old old_first old_second r h)
-
-    put_bit : (k : ℕ) → (k < 10 * p) ⊎ (10 * p + 10 ≤ k) → bit ys k ≡ bit xs k
-    put_bit k out = go (cases_lt (k / 8) (byte_of p)) (cases_lt (byte_of p + 1) (k / 8))
-      where
-        go : (k / 8 < byte_of p) ⊎ (byte_of p ≤ k / 8) → (byte_of p + 1 < k / 8) ⊎ (k / 8 ≤ byte_of p + 1) → bit ys k ≡ bit xs k
-        go (inl a) b = elsewhere k (omega arith) (omega arith)
-        go (inr a) (inl b) = elsewhere k (omega arith) (omega arith)
-        go (inr a) (inr b) =
-            let r = k - 8 * byte_of p in
-            let e : 8 * byte_of p + r ≡ k = omega arith in
-            let same : bit_at new r ≡ bit_at old r = ⊎_elim (λ h. below r (omega arith)) (λ h. above r (omega arith) (omega arith)) out in
-            sym (ap (bit ys) e) ∙ beside r (omega arith) same ∙ ap (bit xs) e
-
-    pub put_others : (k : ℕ) → k ≢ p → word_at ys k ≡ word_at xs k
-    put_others k other = number_is 10 ys (10 * k) (word_at xs k) (number_below 10 xs (10 * k)) each
-      where
-        each : (i : ℕ) → i < 10 → bit ys (10 * k + i) ≡ bit_at (word_at xs k) i
-        each i h =
-            let aside : (10 * k + i < 10 * p) ⊎ (10 * p + 10 ≤ 10 * k + i) = ⊎_elim (λ a. inl (omega arith)) (λ a. inr (omega arith)) (cases_lt k p) in
-            put_bit (10 * k + i) aside ∙ sym (number_bit 10 xs (10 * k) i h)
+          let aside : (10 * k + i < 10 * p) ⊎ (10 * p + 10 ≤ 10 * k + i) = ⊎_elim (λ a. inl (omega arith)) (λ a. inr (omega arith)) (cases_lt k p) in
+          put_bit (10 * k + i) aside ∙ sym (number_bit 10 xs (10 * k) i h)
