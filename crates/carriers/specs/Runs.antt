@@ -14,8 +14,8 @@ place_in first line word = (line - first) * 1440 + word
 
 -- The answer to the question which word of a run of so many whole lines a write of a value sets: a place that the run lacks is refused
 -- before a value above 1023 is.
-abbrev pub placed : ℕ → ℕ → ℕ → ℕ → ℕ → Result ℕ Denial
-placed first lines line word value =
+abbrev pub placed_for : ℕ → ℕ → ℕ → ℕ → ℕ → Result ℕ Denial
+placed_for first lines line word value =
     cond (nat_le first line && (nat_lt line (end_of first lines) && nat_lt word 1440))
     (cond (nat_le value 1023) (Ok (place_in first line word)) (Err (too_wide line word))) (Err (lacking line word))
 

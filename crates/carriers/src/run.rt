@@ -1,7 +1,7 @@
 //! Lines that stand one after the other in memory.
 ghost use Rattle.std.specs.Prelude.{◌≡◌, ◌&&◌, if◌then◌else◌, Ok, Err, nat_le, nat_lt};
 ghost use Rattle.carriers.specs.Meaning.{lacking};
-ghost use Rattle.carriers.specs.Runs.{end_of, place_in, placed};
+ghost use Rattle.carriers.specs.Runs.{end_of, place_in, placed_for};
 
 use denial::{Denial, Layer, Reason};
 
@@ -32,7 +32,7 @@ pub fn place_for(
     word: usize,
     value: u16,
 ) -> Result<usize, Denial>
-    ensures { result ≡ placed first lines line word value }
+    ensures { result ≡ placed_for first lines line word value }
 {
     let place = place_in(first, lines, line, word)?;
     if value > LAST_VALUE {
