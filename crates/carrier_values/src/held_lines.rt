@@ -1,15 +1,7 @@
 //! Sheets, captures, strips and windows, by values worked out by hand.
+use crate::refusals::{off, wide};
 use carriers::{Capture, Carrier, Sheet, Window, WritableCarrier, field_start};
-use denial::{Denial, Layer, Reason};
 use strip::Strip;
-
-fn off(line: usize, word: usize) -> Denial {
-    Denial::new(Reason::Off, Layer::Carrier, line, word)
-}
-
-fn wide(line: usize, word: usize) -> Denial {
-    Denial::new(Reason::Wide, Layer::Carrier, line, word)
-}
 
 #[test]
 fn an_unfinished_line_does_not_count(rt: HostRuntime) {

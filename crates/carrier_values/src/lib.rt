@@ -7,3 +7,5 @@ mod held_lines;
 mod other_carrier;
 #[cfg(test)]
 mod owners;
+#[cfg(test)]
+mod refusals;

@@ -4,8 +4,9 @@ ghost use Rattle.carriers.specs.Meaning.{written};
 ghost use Rattle.carriers.specs.Runs.{run};
 ghost use Rattle.carrier_values.specs.Echo.{echoed};
 
-use carriers::{Carrier, Sheet, Window, WritableCarrier, place_in};
-use denial::{Denial, Layer, Reason};
+use crate::refusals::{off, wide};
+use carriers::{Carrier, Sheet, Window, WritableCarrier, place_for, place_in};
+use denial::Denial;
 use strip::Strip;
 
 // One line, with words of its own.
@@ -30,10 +31,7 @@ impl WritableCarrier for OneLine {
     ghost rest = { λ s. s.line };
 
     fn write(&mut self, line: usize, word: usize, value: u16) -> Result<(), Denial> {
-        let place = place_in(self.line, 1, line, word)?;
-        if value > 1023 {
-            return Err(Denial::new(Reason::Wide, Layer::Carrier, line, word));
-        }
+        let place = place_for(self.line, 1, line, word, value)?;
         self.words[place] = value;
         Ok(())
     }
@@ -50,16 +48,8 @@ fn echo<C: WritableCarrier>(
     ensures after { C.Carrier.meaning carrier.new ≡ written (C.Carrier.meaning carrier.old) line word value }
     ensures beside { C.WritableCarrier.rest carrier.new ≡ C.WritableCarrier.rest carrier.old }
 {
-    (*carrier).write(line, word, value)?;
-    (*carrier).read(line, word)
-}
-
-fn off(line: usize, word: usize) -> Denial {
-    Denial::new(Reason::Off, Layer::Carrier, line, word)
-}
-
-fn wide(line: usize, word: usize) -> Denial {
-    Denial::new(Reason::Wide, Layer::Carrier, line, word)
+    carrier.write(line, word, value)?;
+    carrier.read(line, word)
 }
 
 #[test]

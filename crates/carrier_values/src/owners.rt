@@ -4,8 +4,9 @@ ghost use Rattle.carriers.specs.Meaning.{write_at, written};
 ghost use Rattle.carriers.specs.Rates.{beside, seen};
 ghost use Rattle.carriers.specs.Runs.{behind, sheet};
 
+use crate::refusals::off;
 use carriers::{Carrier, Sheet, Window, WritableCarrier};
-use denial::{Denial, Layer, Reason};
+use denial::Denial;
 
 // A write through a window over a loan of the frame.
 fn write_in_field<C: WritableCarrier>(
@@ -53,8 +54,10 @@ fn a_field_in_memory(rt: HostRuntime) {
         words: &mut words,
     };
     assert_eq!(rt; write_in_field(&mut frame, 1, 0, 211, 0, 8), Ok(()));
-    let refused = Denial::new(Reason::Off, Layer::Carrier, 212, 0);
-    assert_eq!(rt; write_in_field(&mut frame, 1, 0, 212, 0, 8), Err(refused));
+    assert_eq!(rt;
+        write_in_field(&mut frame, 1, 0, 212, 0, 8),
+        Err(off(212, 0))
+    );
     assert_eq!(rt; write_in_memory(270, &mut words, 272, 1439, 9), Ok(()));
     let mut expected = [4; 4330];
     expected[0] = 8;

@@ -2,7 +2,7 @@
 ghost use Rattle.carriers.specs.Runs.{sheet};
 
 use crate::carrier::Carrier;
-use crate::run::place_among;
+use crate::run::{LINE, place_in};
 use denial::Denial;
 
 /// A shared run of sixteen-bit numbers, 1440 to a line, from the line `first` on.
@@ -16,7 +16,7 @@ impl<'a> Carrier for Capture<'a> {
     ghost meaning = { λ s. sheet s.first s.words.now };
 
     fn read(&self, line: usize, word: usize) -> Result<u16, Denial> {
-        let place = place_among(self.first, self.words.len(), line, word)?;
+        let place = place_in(self.first, self.words.len() / LINE, line, word)?;
         Ok(self.words[place])
     }
 }

@@ -1,4 +1,5 @@
 //! A carrier that is lent to be changed is a carrier.
+// Not one impl over `Deref`: its contract gives no value that stands behind, of which a meaning could be said.
 ghost use Rattle.std.specs.Prelude.{ℕ};
 
 use crate::carrier::{Carrier, WritableCarrier};

@@ -13,6 +13,6 @@ mod window;
 pub use capture::Capture;
 pub use carrier::{Carrier, WritableCarrier};
 pub use rates::field_start;
-pub use run::place_in;
+pub use run::{place_for, place_in};
 pub use sheet::{Sheet, sheet_fits};
 pub use window::{Window, window_fits};

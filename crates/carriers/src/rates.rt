@@ -9,8 +9,5 @@ const FIELD_STARTS: [[usize; 2]; 4] = [[50, 313], [59, 372], [59, 372], [50, 313
 pub fn field_start(rate: usize, field: usize) -> Option<usize>
     ensures { result ≡ started rate field }
 {
-    if rate > 3 || field > 1 {
-        return None;
-    }
-    Some(FIELD_STARTS[rate][field])
+    FIELD_STARTS.get(rate)?.get(field).copied()
 }

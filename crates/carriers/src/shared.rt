@@ -1,4 +1,5 @@
 //! A carrier that is lent to be read is a carrier to read.
+// Not one impl over `Deref`: its contract gives no value that stands behind, of which a meaning could be said.
 use crate::carrier::Carrier;
 use denial::Denial;
 

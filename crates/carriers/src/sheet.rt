@@ -2,9 +2,10 @@
 ghost use Rattle.std.specs.Prelude.{ℕ, List, length};
 ghost use Rattle.carriers.specs.Runs.{behind, sheet, SheetFits};
 
+use crate::capture::Capture;
 use crate::carrier::{Carrier, WritableCarrier};
-use crate::run::place_among;
-use denial::{Denial, Layer, Reason};
+use crate::run::{LINE, place_for};
+use denial::Denial;
 
 /// A run of sixteen-bit numbers, 1440 to a line, from the line `first` on.
 #[derive(Drop)]
@@ -17,8 +18,11 @@ impl<'a> Carrier for Sheet<'a> {
     ghost meaning = { λ s. sheet s.first s.words.now };
 
     fn read(&self, line: usize, word: usize) -> Result<u16, Denial> {
-        let place = place_among(self.first, self.words.len(), line, word)?;
-        Ok(self.words[place])
+        let capture = Capture {
+            first: self.first,
+            words: self.words,
+        };
+        capture.read(line, word)
     }
 }
 
@@ -27,11 +31,9 @@ impl<'a> WritableCarrier for Sheet<'a> {
 
     ghost rest = { λ s. (s.first, s.words.ghost_name, length s.words.now, behind 1440 s.first s.words.now) };
 
+    #[tactic(auto, using(crate::proofs::Meanings::sheet_written))]
     fn write(&mut self, line: usize, word: usize, value: u16) -> Result<(), Denial> {
-        let place = place_among(self.first, self.words.len(), line, word)?;
-        if value > 1023 {
-            return Err(Denial::new(Reason::Wide, Layer::Carrier, line, word));
-        }
+        let place = place_for(self.first, self.words.len() / LINE, line, word, value)?;
         self.words[place] = value;
         Ok(())
     }

@@ -18,13 +18,15 @@ pub struct Window<C> {
 /// The last line of a field.
 const LAST_LINE: usize = 211;
 
-// The line below that is the window's; `word` is only for the refusal.
-fn line_below(rate: usize, field: usize, line: usize, word: usize) -> Result<usize, Denial>
-    ensures { result ≡ (if is_field rate field && nat_le line 211 then Ok (start_of rate field + line) else Err (lacking line word)) }
-{
-    match field_start(rate, field) {
-        Some(start) if line <= LAST_LINE => Ok(start + line),
-        _ => Err(Denial::new(Reason::Off, Layer::Carrier, line, word)),
+impl<C> Window<C> {
+    // The line below that is the window's; `word` is only for the refusal.
+    fn line_below(&self, line: usize, word: usize) -> Result<usize, Denial>
+        ensures { result ≡ (if is_field self.now.rate self.now.field && nat_le line 211 then Ok (start_of self.now.rate self.now.field + line) else Err (lacking line word)) }
+    {
+        match field_start(self.rate, self.field) {
+            Some(start) if line <= LAST_LINE => Ok(start + line),
+            _ => Err(Denial::new(Reason::Off, Layer::Carrier, line, word)),
+        }
     }
 }
 
@@ -32,11 +34,10 @@ impl<C: Carrier> Carrier for Window<C> {
     ghost meaning = { λ s. seen s.rate s.field (C.Carrier.meaning s.below) };
 
     fn read(&self, line: usize, word: usize) -> Result<u16, Denial> {
-        let below = line_below(self.rate, self.field, line, word)?;
-        match self.below.read(below, word) {
-            Ok(number) => Ok(number),
-            Err(denial) => Err(denial.at(line, word)),
-        }
+        let below = self.line_below(line, word)?;
+        self.below
+            .read(below, word)
+            .map_err(|denial| denial.at(line, word))
     }
 }
 
@@ -46,11 +47,10 @@ impl<C: WritableCarrier> WritableCarrier for Window<C> {
     ghost rest = { λ s. (s.rate, s.field, beside s.rate s.field (C.Carrier.meaning s.below), C.WritableCarrier.rest s.below) };
 
     fn write(&mut self, line: usize, word: usize, value: u16) -> Result<(), Denial> {
-        let below = line_below(self.rate, self.field, line, word)?;
-        match self.below.write(below, word, value) {
-            Ok(()) => Ok(()),
-            Err(refusal) => Err(refusal.at(line, word)),
-        }
+        let below = self.line_below(line, word)?;
+        self.below
+            .write(below, word, value)
+            .map_err(|refusal| refusal.at(line, word))
     }
 }
 

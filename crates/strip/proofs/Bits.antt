@@ -1,78 +1,49 @@
--- Numbers by their bits, and words in pairs of bytes.
-use Rattle.std.proofs.Common.{◌≡◌, ℕ, zero, suc, ◌+◌, ◌-◌, ◌*◌, ◌/◌, ◌%◌, ◌^◌, ◌<◌, ◌≤◌, ◌≢◌, ◌⊎◌, List, length, get_or, drop, set, sym, ap, ◌∙◌, subst, ap₂, inl, inr, ⊎_elim, pow-suc, arith, length-set, get_or-set_other, get_or-set_same, drop-set-lt}
-use lib.Arith.{digits_lt}
-use lib.Pow.{mod-mod-pow}
-use Rattle.std.proofs.lemmas.Nat.{field_of, mod_below, mod_low, one_shl, pow-add, pow_pos, shl_whole, shr_below, shr_high, shr-shr}
+-- Words by their bits, and the pair of bytes in which a word stands.
+use Rattle.std.proofs.Common.{◌≡◌, ℕ, zero, suc, ◌+◌, ◌-◌, ◌*◌, ◌/◌, ◌%◌, ◌^◌, ◌<◌, ◌≤◌, ◌≢◌, ◌⊎◌, min, max, List, get_or, sym, ap, ◌∙◌, inl, inr, ⊎_elim, pow-suc, arith}
+use Rattle.std.proofs.lemmas.Nat.{and_le_r, pow_pos, shl_whole, shr-shr}
+use Rattle.std.proofs.lemmas.Nat.Bits.{bit_at-suc, bit_at-zero, bit_at_above, bit_at_and, bit_at_cat_high, bit_at_cat_low, bit_at_not, bit_at_ones, bit_at_or, same_from_bits_below}
 use Rattle.std.proofs.lemmas.Bool.{cases_lt}
+use Rattle.std.specs.Int.{bit_at, bit_not, w16}
+use Rattle.std.specs.Int.RustNames.{bit_and, bit_or}
 use Rattle.strip.specs.Packed.{bit, number, word_at}
 
--- Bit i of a number.
-abbrev digit : ℕ → ℕ → ℕ
-digit n i = n / 2 ^ i % 2
-
-digit_above : (n s i : ℕ) → digit n (s + i) ≡ digit (n / 2 ^ s) i
-digit_above n s i = ap (λ x. x % 2) (sym (shr-shr n s i))
-
-digit_below : (n s i : ℕ) → i < s → digit n i ≡ digit (n % 2 ^ s) i
-digit_below n s i h =
-    let d : s - suc i + 1 + i ≡ s = omega arith in
-    sym (ap (λ x. digit (n % 2 ^ x) i) (sym d) ∙ ap (λ x. x % 2) (field_of n (s - suc i + 1) i) ∙ mod-mod-pow (n / 2 ^ i) (s - suc i) 1)
-
-bit_below : (xs : List ℕ) (k : ℕ) → bit xs k < 2
-unfolding bit
-bit_below xs k = omega arith
-
 pub number_below : (n : ℕ) (xs : List ℕ) (k : ℕ) → number xs k n < 2 ^ n
-unfolding number
+unfolding number bit
 number_below zero xs k = omega arith
-number_below (suc n) xs k = omega (arith, pow-suc 2 n, bit_below xs k, number_below n xs (k + 1))
+number_below (suc n) xs k = omega (arith, pow-suc 2 n, number_below n xs (k + 1))
 
-pub number_digit : (n : ℕ) (xs : List ℕ) (k i : ℕ) → i < n → digit (number xs k n) i ≡ bit xs (k + i)
-unfolding number
-number_digit zero xs k i h = absurd (omega arith)
-number_digit (suc n) xs k zero h =
-    let z : k ≡ k + 0 = omega arith in
-    let d : digit (bit xs k + 2 * number xs (k + 1) n) 0 ≡ bit xs k = omega (arith, bit_below xs k) in
-    d ∙ ap (bit xs) z
-number_digit (suc n) xs k (suc i) h =
-    let e : 1 + i ≡ suc i = omega arith in
+pub number_bit : (n : ℕ) (xs : List ℕ) (k i : ℕ) → i < n → bit_at (number xs k n) i ≡ bit xs (k + i)
+unfolding number bit
+number_bit zero xs k i h = absurd (omega arith)
+number_bit (suc n) xs k zero h = let z : k ≡ k + 0 = omega arith in omega (arith, ap (bit xs) z)
+number_bit (suc n) xs k (suc i) h =
     let m : k + 1 + i ≡ k + suc i = omega arith in
-    let half : (bit xs k + 2 * number xs (k + 1) n) / 2 ≡ number xs (k + 1) n = omega (arith, bit_below xs k) in
-    ap (digit (bit xs k + 2 * number xs (k + 1) n)) (sym e) ∙ digit_above (bit xs k + 2 * number xs (k + 1) n) 1 i ∙ ap (λ x. digit x i) half
-    ∙ number_digit n xs (k + 1) i (omega arith) ∙ ap (bit xs) m
+    let half : (bit xs k + 2 * number xs (k + 1) n) / 2 ≡ number xs (k + 1) n = omega arith in
+    bit_at-suc (bit xs k + 2 * number xs (k + 1) n) i ∙ ap (λ x. bit_at x i) half ∙ number_bit n xs (k + 1) i (omega arith) ∙ ap (bit xs) m
 
 -- A number is told by its bits.
-number_is : (n : ℕ) (xs : List ℕ) (k v : ℕ) → v < 2 ^ n → ((i : ℕ) → i < n → bit xs (k + i) ≡ digit v i) → number xs k n ≡ v
-unfolding number
-number_is zero xs k v h b = omega arith
-number_is (suc n) xs k v h b =
-    let z : k ≡ k + 0 = omega arith in
-    let e : bit xs k ≡ v % 2 = ap (bit xs) z ∙ b 0 (omega arith) ∙ omega arith in
-    let f = number_is n xs (k + 1) (v / 2) (omega (arith, pow-suc 2 n)) more in
-    omega arith
-  where
-    more : (i : ℕ) → i < n → bit xs (k + 1 + i) ≡ digit (v / 2) i
-    more i l = let m : k + 1 + i ≡ k + (1 + i) = omega arith in ap (bit xs) m ∙ b (1 + i) (omega arith) ∙ digit_above v 1 i
-
-byte_bit : (xs : List ℕ) (q r : ℕ) → r < 8 → bit xs (8 * q + r) ≡ digit (get_or xs q 0) r
-unfolding bit
-byte_bit xs q r h =
-    let e : (8 * q + r) / 8 ≡ q = omega arith in
-    let f : (8 * q + r) % 8 ≡ r = omega arith in
-    rw (e, f)
+number_is : (n : ℕ) (xs : List ℕ) (k v : ℕ) → v < 2 ^ n → ((i : ℕ) → i < n → bit xs (k + i) ≡ bit_at v i) → number xs k n ≡ v
+number_is n xs k v h b =
+    same_from_bits_below n (number xs k n) v (number_below n xs k) h (λ i l. number_bit n xs k i l ∙ b i l)
 
 -- The sixteen bits of two bytes that stand together are those of one number.
 pair_bit : (xs : List ℕ) (q pair : ℕ) → pair % 256 ≡ get_or xs q 0 → pair / 256 ≡ get_or xs (q + 1) 0 → (r : ℕ) → r < 16 →
-    bit xs (8 * q + r) ≡ digit pair r
+    bit xs (8 * q + r) ≡ bit_at pair r
+unfolding bit
 pair_bit xs q pair first second r h = go (cases_lt r 8)
   where
-    go : (r < 8) ⊎ (8 ≤ r) → bit xs (8 * q + r) ≡ digit pair r
-    go (inl c) = byte_bit xs q r c ∙ ap (λ x. digit x r) (sym first) ∙ sym (digit_below pair 8 r c)
+    split : pair ≡ pair / 256 * 2 ^ 8 + pair % 256
+    split = omega arith
+
+    go : (r < 8) ⊎ (8 ≤ r) → bit xs (8 * q + r) ≡ bit_at pair r
+    go (inl c) =
+        let e : (8 * q + r) / 8 ≡ q = omega arith in
+        let f : (8 * q + r) % 8 ≡ r = omega arith in
+        rw (e, f) (ap (λ x. bit_at x r) (sym first) ∙ sym (ap (λ x. bit_at x r) split ∙ bit_at_cat_low (pair / 256) 8 (pair % 256) r c))
     go (inr c) =
-        let e : 8 * q + r ≡ 8 * (q + 1) + (r - 8) = omega arith in
-        let d : 8 + (r - 8) ≡ r = omega arith in
-        ap (bit xs) e ∙ byte_bit xs (q + 1) (r - 8) (omega arith) ∙ ap (λ x. digit x (r - 8)) (sym second)
-        ∙ sym (digit_above pair 8 (r - 8)) ∙ ap (digit pair) d
+        let e : (8 * q + r) / 8 ≡ q + 1 = omega arith in
+        let f : (8 * q + r) % 8 ≡ r - 8 = omega arith in
+        rw (e, f) (ap (λ x. bit_at x (r - 8)) (sym second) ∙ sym (ap (λ x. bit_at x r) split ∙ bit_at_cat_high (pair / 256) 8 (pair % 256) r (omega arith) c))
 
 -- Word p begins at bit 10 p, which is bit shift_of p of byte byte_of p.
 abbrev byte_of : ℕ → ℕ
@@ -81,114 +52,83 @@ byte_of p = p + p / 4
 abbrev shift_of : ℕ → ℕ
 shift_of p = p % 4 * 2
 
-pub word_in_pair : (xs : List ℕ) (p pair : ℕ) → pair % 256 ≡ get_or xs (byte_of p) 0 → pair / 256 ≡ get_or xs (byte_of p + 1) 0 →
-    word_at xs p ≡ pair / 2 ^ shift_of p % 1024
-word_in_pair xs p pair first second = number_is 10 xs (10 * p) (pair / 2 ^ shift_of p % 1024) (omega arith) each
+-- A word is told by its bits in the pair.
+pub word_is : (xs : List ℕ) (p pair v : ℕ) → pair % 256 ≡ get_or xs (byte_of p) 0 → pair / 256 ≡ get_or xs (byte_of p + 1) 0 → v < 1024 →
+    ((i : ℕ) → i < 10 → bit_at pair (shift_of p + i) ≡ bit_at v i) → word_at xs p ≡ v
+word_is xs p pair v first second narrow word = number_is 10 xs (10 * p) v narrow each
   where
-    each : (i : ℕ) → i < 10 → bit xs (10 * p + i) ≡ digit (pair / 2 ^ shift_of p % 1024) i
+    each : (i : ℕ) → i < 10 → bit xs (10 * p + i) ≡ bit_at v i
     each i h =
         let e : 10 * p + i ≡ 8 * byte_of p + (shift_of p + i) = omega arith in
-        ap (bit xs) e ∙ pair_bit xs (byte_of p) pair first second (shift_of p + i) (omega arith) ∙ digit_above pair (shift_of p) i
-        ∙ digit_below (pair / 2 ^ shift_of p) 10 i h
+        ap (bit xs) e ∙ pair_bit xs (byte_of p) pair first second (shift_of p + i) (omega arith) ∙ word i h
 
--- A pair with v in the ten bits from s on: what stands above them, v, and what stands below.
-module _ (pair s v : ℕ) (fits : pair < 65536) (inside : s ≤ 6) (narrow : v < 1024) where
-  abbrev top : ℕ
-  top = pair / 2 ^ s / 1024 * 1024 + v
+pub word_in_pair : (xs : List ℕ) (p pair : ℕ) → pair % 256 ≡ get_or xs (byte_of p) 0 → pair / 256 ≡ get_or xs (byte_of p + 1) 0 →
+    word_at xs p ≡ bit_and (pair / 2 ^ shift_of p) 1023
+word_in_pair xs p pair first second =
+    word_is xs p pair (bit_and (pair / 2 ^ shift_of p) 1023) first second (omega (arith, and_le_r (pair / 2 ^ shift_of p) 1023))
+    (λ i h. omega (arith, bit_at_and (pair / 2 ^ shift_of p) 1023 i, bit_at_ones 10 i h, ap (λ x. x % 2) (shr-shr pair (shift_of p) i)))
 
+-- A pair with v in the ten bits from s on.
+module _ (pair s v : ℕ) (inside : s ≤ 6) (narrow : v < 1024) where
   abbrev joined : ℕ
-  joined = top * 2 ^ s % 65536 + pair % (1 * 2 ^ s % 65536)
+  joined = bit_or (bit_and pair (bit_not w16 (1023 * 2 ^ s % 65536))) (v * 2 ^ s % 65536)
 
-  upper : top < 2 ^ (16 - s)
-  upper =
-      let e : 16 - s ≡ 6 - s + 10 = omega arith in
-      let d : 16 - s + s ≡ 16 = omega arith in
-      let split : 2 ^ (16 - s) ≡ 2 ^ (6 - s) * 1024 = ap (λ x. 2 ^ x) e ∙ pow-add 2 (6 - s) 10 in
-      let b : pair / 2 ^ s < 2 ^ (16 - s) = shr_below pair (16 - s) s (subst (λ x. pair < 2 ^ x) (sym d) fits) in
-      omega arith
+  whole : (n : ℕ) → n < 1024 → n * 2 ^ s % 65536 ≡ n * 2 ^ s + 0
+  whole n h = omega (arith, shl_whole n 10 s 16 h (omega arith))
 
-  lower : pair % 2 ^ s < 2 ^ s
-  lower = mod_below pair (2 ^ s) (pow_pos s)
+  shifted_low : (n i : ℕ) → n < 1024 → i < s → bit_at (n * 2 ^ s % 65536) i ≡ 0
+  shifted_low n i h l = ap (λ x. bit_at x i) (whole n h) ∙ bit_at_cat_low n s 0 i l ∙ bit_at-zero i
 
-  joined_is : joined ≡ top * 2 ^ s + pair % 2 ^ s
-  joined_is = ap₂ (λ x y. x + pair % y) (shl_whole top (16 - s) s 16 upper (omega arith)) (one_shl s 16 (omega arith))
+  shifted_high : (n i : ℕ) → n < 1024 → s ≤ i → bit_at (n * 2 ^ s % 65536) i ≡ bit_at n (i - s)
+  shifted_high n i h l = ap (λ x. bit_at x i) (whole n h) ∙ bit_at_cat_high n s 0 i (pow_pos s) l
 
-  pub joined_fits : joined < 65536
-  joined_fits =
-      let d : 16 - s + s ≡ 16 = omega arith in
-      let whole : 2 ^ (16 - s) * 2 ^ s ≡ 65536 = sym (pow-add 2 (16 - s) s) ∙ ap (λ x. 2 ^ x) d in
-      rw joined_is (omega (arith, digits_lt upper lower))
+  joined_bit : (i : ℕ) → i < 16 → bit_at joined i ≡ max (min (bit_at pair i) (1 - bit_at (1023 * 2 ^ s % 65536) i)) (bit_at (v * 2 ^ s % 65536) i)
+  joined_bit i h =
+      let mask = 1023 * 2 ^ s % 65536 in
+      omega (arith, bit_at_or (bit_and pair (bit_not w16 mask)) (v * 2 ^ s % 65536) i, bit_at_and pair (bit_not w16 mask) i, bit_at_not w16 mask i (omega arith) h)
 
-  pub joined_below : joined % 2 ^ s ≡ pair % 2 ^ s
-  joined_below = rw joined_is (mod_low top s (pair % 2 ^ s) lower)
+  pub joined_below : (i : ℕ) → i < s → bit_at joined i ≡ bit_at pair i
+  joined_below i h = omega (arith, joined_bit i (omega arith), shifted_low 1023 i (omega arith) h, shifted_low v i narrow h)
 
-  joined_up : joined / 2 ^ s ≡ top
-  joined_up = rw joined_is (shr_high top s (pair % 2 ^ s) lower)
+  pub joined_word : (i : ℕ) → i < 10 → bit_at joined (s + i) ≡ bit_at v i
+  joined_word i h =
+      let e : s + i - s ≡ i = omega arith in
+      omega (arith, joined_bit (s + i) (omega arith), shifted_high 1023 (s + i) (omega arith) (omega arith), shifted_high v (s + i) narrow (omega arith), ap (bit_at 1023) e, ap (bit_at v) e, bit_at_ones 10 i h)
 
-  pub joined_word : joined / 2 ^ s % 1024 ≡ v
-  joined_word = omega (arith, joined_up)
+  pub joined_above : (i : ℕ) → s + 10 ≤ i → i < 16 → bit_at joined i ≡ bit_at pair i
+  joined_above i a h =
+      let l : 10 ≤ i - s = omega arith in
+      omega (arith, joined_bit i h, shifted_high 1023 i (omega arith) (omega arith), shifted_high v i narrow (omega arith), bit_at_above 1023 10 (i - s) (omega arith) l, bit_at_above v 10 (i - s) narrow l)
 
-  pub joined_above : joined / 2 ^ s / 1024 ≡ pair / 2 ^ s / 1024
-  joined_above = omega (arith, joined_up)
-
--- Two numbers that differ at most in the ten bits from s on.
-same_digit : (old new s r : ℕ) → new % 2 ^ s ≡ old % 2 ^ s → new / 2 ^ s / 1024 ≡ old / 2 ^ s / 1024 → (r < s) ⊎ (s + 10 ≤ r) →
-    digit new r ≡ digit old r
-same_digit old new s r below above (inl h) = digit_below new s r h ∙ ap (λ x. digit x r) below ∙ sym (digit_below old s r h)
-same_digit old new s r below above (inr h) = up new ∙ ap (λ x. digit x (r - (s + 10))) above ∙ sym (up old)
-  where
-    up : (n : ℕ) → digit n r ≡ digit (n / 2 ^ s / 1024) (r - (s + 10))
-    up n =
-        let e : r ≡ s + (10 + (r - (s + 10))) = omega arith in
-        ap (digit n) e ∙ digit_above n s (10 + (r - (s + 10))) ∙ digit_above (n / 2 ^ s) 10 (r - (s + 10))
-
--- The two bytes of a word are set to those of another number.
-module _ (xs : List ℕ) (p pair : ℕ) (within : byte_of p + 1 < length xs) where
-  abbrev put : List ℕ
-  put = set (set xs (byte_of p) (pair % 256)) (byte_of p + 1) (pair / 256)
-
-  put_first : pair % 256 ≡ get_or put (byte_of p) 0
-  put_first =
-      let n : byte_of p ≢ byte_of p + 1 = omega arith in
-      let l : byte_of p < length xs = omega arith in
-      rw (get_or-set_other, get_or-set_same)
-
-  put_second : pair / 256 ≡ get_or put (byte_of p + 1) 0
-  put_second = let l : byte_of p + 1 < length (set xs (byte_of p) (pair % 256)) = simp length-set within in rw get_or-set_same
-
-  pub put_word : word_at put p ≡ pair / 2 ^ shift_of p % 1024
-  put_word = word_in_pair put p pair put_first put_second
-
-  pub put_behind : (n : ℕ) → 10 * p + 10 ≤ 8 * n → drop n put ≡ drop n xs
-  put_behind n h =
-      drop-set-lt n (set xs (byte_of p) (pair % 256)) (byte_of p + 1) (pair / 256) (omega arith)
-      ∙ drop-set-lt n xs (byte_of p) (pair % 256) (omega arith)
-
-  elsewhere : (k : ℕ) → k / 8 ≢ byte_of p → k / 8 ≢ byte_of p + 1 → bit put k ≡ bit xs k
+-- The two bytes of word p are set, and the number that they make differs at most in the word.
+module _ (xs ys : List ℕ) (p old new : ℕ)
+    (old_first : old % 256 ≡ get_or xs (byte_of p) 0) (old_second : old / 256 ≡ get_or xs (byte_of p + 1) 0)
+    (new_first : new % 256 ≡ get_or ys (byte_of p) 0) (new_second : new / 256 ≡ get_or ys (byte_of p + 1) 0)
+    (rest : (k : ℕ) → k ≢ byte_of p → k ≢ byte_of p + 1 → get_or ys k 0 ≡ get_or xs k 0)
+    (below : (i : ℕ) → i < shift_of p → bit_at new i ≡ bit_at old i) (above : (i : ℕ) → shift_of p + 10 ≤ i → i < 16 → bit_at new i ≡ bit_at old i) where
+  elsewhere : (k : ℕ) → k / 8 ≢ byte_of p → k / 8 ≢ byte_of p + 1 → bit ys k ≡ bit xs k
   unfolding bit
-  elsewhere k a b = rw (get_or-set_other, get_or-set_other)
+  elsewhere k a b = rw (rest (k / 8) a b)
 
-  -- The other number differs at most in the word.
-  module _ (old : ℕ) (first : old % 256 ≡ get_or xs (byte_of p) 0) (second : old / 256 ≡ get_or xs (byte_of p + 1) 0)
-      (below : pair % 2 ^ shift_of p ≡ old % 2 ^ shift_of p) (above : pair / 2 ^ shift_of p / 1024 ≡ old / 2 ^ shift_of p / 1024) where
-    put_bit : (k : ℕ) → (k < 10 * p) ⊎ (10 * p + 10 ≤ k) → bit put k ≡ bit xs k
-    put_bit k out = go (cases_lt (k / 8) (byte_of p)) (cases_lt (byte_of p + 1) (k / 8))
-      where
-        go : (k / 8 < byte_of p) ⊎ (byte_of p ≤ k / 8) → (byte_of p + 1 < k / 8) ⊎ (k / 8 ≤ byte_of p + 1) → bit put k ≡ bit xs k
-        go (inl a) b = elsewhere k (omega arith) (omega arith)
-        go (inr a) (inl b) = elsewhere k (omega arith) (omega arith)
-        go (inr a) (inr b) =
-            let r = k - 8 * byte_of p in
-            let e : k ≡ 8 * byte_of p + r = omega arith in
-            let aside : (r < shift_of p) ⊎ (shift_of p + 10 ≤ r) = ⊎_elim (λ h. inl (omega arith)) (λ h. inr (omega arith)) out in
-            ap (bit put) e ∙ pair_bit put (byte_of p) pair put_first put_second r (omega arith)
-            ∙ same_digit old pair (shift_of p) r below above aside
-            ∙ sym (pair_bit xs (byte_of p) old first second r (omega arith)) ∙ ap (bit xs) (sym e)
+  beside : (r : ℕ) → r < 16 → bit_at new r ≡ bit_at old r → bit ys (8 * byte_of p + r) ≡ bit xs (8 * byte_of p + r)
+  beside r h e = pair_bit ys (byte_of p) new new_first new_second r h ∙ e ∙ sym (pair_bit xs (byte_of p) old old_first old_second r h)
 
-    pub put_others : (k : ℕ) → k ≢ p → word_at put k ≡ word_at xs k
-    put_others k other = number_is 10 put (10 * k) (word_at xs k) (number_below 10 xs (10 * k)) each
-      where
-        each : (i : ℕ) → i < 10 → bit put (10 * k + i) ≡ digit (word_at xs k) i
-        each i h =
-            let aside : (10 * k + i < 10 * p) ⊎ (10 * p + 10 ≤ 10 * k + i) = ⊎_elim (λ a. inl (omega arith)) (λ a. inr (omega arith)) (cases_lt k p) in
-            put_bit (10 * k + i) aside ∙ sym (number_digit 10 xs (10 * k) i h)
+  put_bit : (k : ℕ) → (k < 10 * p) ⊎ (10 * p + 10 ≤ k) → bit ys k ≡ bit xs k
+  put_bit k out = go (cases_lt (k / 8) (byte_of p)) (cases_lt (byte_of p + 1) (k / 8))
+    where
+      go : (k / 8 < byte_of p) ⊎ (byte_of p ≤ k / 8) → (byte_of p + 1 < k / 8) ⊎ (k / 8 ≤ byte_of p + 1) → bit ys k ≡ bit xs k
+      go (inl a) b = elsewhere k (omega arith) (omega arith)
+      go (inr a) (inl b) = elsewhere k (omega arith) (omega arith)
+      go (inr a) (inr b) =
+          let r = k - 8 * byte_of p in
+          let e : 8 * byte_of p + r ≡ k = omega arith in
+          let same : bit_at new r ≡ bit_at old r = ⊎_elim (λ h. below r (omega arith)) (λ h. above r (omega arith) (omega arith)) out in
+          sym (ap (bit ys) e) ∙ beside r (omega arith) same ∙ ap (bit xs) e
+
+  pub put_others : (k : ℕ) → k ≢ p → word_at ys k ≡ word_at xs k
+  put_others k other = number_is 10 ys (10 * k) (word_at xs k) (number_below 10 xs (10 * k)) each
+    where
+      each : (i : ℕ) → i < 10 → bit ys (10 * k + i) ≡ bit_at (word_at xs k) i
+      each i h =
+          let aside : (10 * k + i < 10 * p) ⊎ (10 * p + 10 ≤ 10 * k + i) = ⊎_elim (λ a. inl (omega arith)) (λ a. inr (omega arith)) (cases_lt k p) in
+          put_bit (10 * k + i) aside ∙ sym (number_bit 10 xs (10 * k) i h)

@@ -8,8 +8,8 @@ ghost use Rattle.carriers.specs.Runs.{behind};
 ghost use Rattle.strip.specs.Packed.{strip, StripFits};
 
 use crate::packed::{set_word, word_at};
-use carriers::{Carrier, WritableCarrier, place_in};
-use denial::{Denial, Layer, Reason};
+use carriers::{Carrier, WritableCarrier, place_for, place_in};
+use denial::Denial;
 
 /// A run of bytes, 1800 to a line of 1440 ten-bit words, from the line `first` on. Bit i of a line's word w is bit 10w + i of the
 /// line, and bit k of a line is bit k mod 8 of its byte k div 8.
@@ -37,10 +37,7 @@ impl<'a> WritableCarrier for Strip<'a> {
     ghost rest = { λ s. (s.first, s.bytes.ghost_name, length s.bytes.now, behind 1800 s.first s.bytes.now) };
 
     fn write(&mut self, line: usize, word: usize, value: u16) -> Result<(), Denial> {
-        let place = place_in(self.first, self.bytes.len() / LINE, line, word)?;
-        if value > 1023 {
-            return Err(Denial::new(Reason::Wide, Layer::Carrier, line, word));
-        }
+        let place = place_for(self.first, self.bytes.len() / LINE, line, word, value)?;
         set_word(self.bytes, place, value);
         Ok(())
     }

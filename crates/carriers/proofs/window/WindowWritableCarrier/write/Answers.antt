@@ -1,29 +1,18 @@
-use Rattle.std.proofs.Common.{Ok, Err, refl, ap, ◌∙◌}
-use Rattle.std.proofs.lemmas.Result.{err_from_is_err_and}
-use Rattle.carriers.proofs.Windows.{lacks, writes}
+use Rattle.carriers.proofs.Windows.{beside_written, seen_kept, seen_written}
 use Rattle.carriers.proofs.window.WindowWritableCarrier.write.Goals as goal
 
-pub returns-in_err-below : goal.returns-in_err-below
-returns-in_err-below g c =
-    let w = lacks c.args.self.now.rate c.args.self.now.field (g.C.Carrier.meaning c.args.self.now.below) c.args.line c.args.word c.args.value
-    _ c.in_err-below.ensures in
-    let p = err_from_is_err_and c.from_residual.result c.from_residual.ensures.1 in
-    record {
-      answer = p.1 ∙ ap Err p.2 ∙ w.0;
-      after = w.1;
-      beside = refl;
-    }
-
-pub returns-in-Ok : goal.returns-in-Ok
-returns-in-Ok g c =
+pub returns-in_err-below-clause-after : goal.returns-in_err-below-clause-after
+returns-in_err-below-clause-after g c =
     let s = c.args.self.now in
-    let below = c.in-Ok.ensures in
-    let w = writes s.rate s.field _ _ c.args.line c.args.word c.in_ok-below.ensures _ c.args.value (Ok tt) below.answer below.after in
-    record { answer = w.0; after = w.1; beside = λ i. (s.rate, s.field, w.2 i, below.beside i) }
+    seen_kept s.rate s.field (g.C.Carrier.meaning s.below) c.args.line c.args.word c.args.value _ c.in_err-below.ensures
 
-pub returns-in-Err : goal.returns-in-Err
-returns-in-Err g c =
+pub returns-clause-after : goal.returns-clause-after
+returns-clause-after g c =
     let s = c.args.self.now in
-    let below = c.in-Err.ensures in
-    let w = writes s.rate s.field _ _ c.args.line c.args.word c.in_ok-below.ensures _ c.args.value (Err c.in-Err.refusal) below.answer below.after in
-    record { answer = ap Err c.at.ensures ∙ w.0; after = w.1; beside = λ i. (s.rate, s.field, w.2 i, below.beside i) }
+    seen_written s.rate s.field _ _ _ c.args.line c.args.word c.args.value c.in_ok-below.ensures c.write.ensures.after
+
+pub returns-clause-beside : goal.returns-clause-beside
+returns-clause-beside g c =
+    let s = c.args.self.now in
+    let hidden = beside_written s.rate s.field _ _ _ c.args.line c.args.word c.args.value c.in_ok-below.ensures c.write.ensures.after in
+    λ i. (s.rate, s.field, hidden i, c.write.ensures.beside i)
