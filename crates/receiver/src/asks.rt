@@ -1,5 +1,5 @@
 //! Answering for blocks.
-ghost use Rattle.std.specs.Prelude.{◌≡◌, ◌≤◌, length, MatchResult};
+ghost use Rattle.std.specs.Prelude.{◌≡◌, ◌≤◌, length, IfOk, MatchResult};
 ghost use Rattle.receiver.specs.Asks.{ask_refusal, Asked, by_missing, checked, Given, missing_line, untaken};
 ghost use Rattle.receiver.specs.Memory.{gathered};
 
@@ -42,7 +42,9 @@ fn check_ask(
     channel: usize,
     place: &[u8],
 ) -> Result<BlockName, Denial>
-    ensures { MatchResult result (λ name. (ask_refusal memory.now packet channel place.now ≡ None) × (length place.now ≡ 219) × (name.packet ≡ packet) × (name.channel ≡ channel)) (λ denial. ask_refusal memory.now packet channel place.now ≡ Some denial) }
+    ensures answer { MatchResult result (λ _. ask_refusal memory.now packet channel place.now ≡ None) (λ denial. ask_refusal memory.now packet channel place.now ≡ Some denial) }
+    ensures name { IfOk result (λ name. (name.packet ≡ packet) × (name.channel ≡ channel)) }
+    ensures place { IfOk result (λ _. length place.now ≡ 219) }
 {
     let name = BlockName::new(packet, channel)?;
     if place.len() != BASIC {
