@@ -67,17 +67,12 @@ fn gather(memory: &[u8; MEMORY], name: BlockName) -> [u8; BLOCK]
 }
 
 // Mends a block that is all there, and writes its bytes.
-fn give(
-    memory: &[u8; MEMORY],
-    name: BlockName,
-    place: &mut [u8],
-) -> Result<MendRecord, Denial>
+fn give(memory: &[u8; MEMORY], name: BlockName, place: &mut [u8]) -> Result<MendRecord, Denial>
     requires { length place.old ≡ 219 }
     ensures { Given (gathered memory.now name.packet name.channel) name.packet name.channel place.old place.new result }
 {
     let mut block = gather(memory, name);
-    let mends = mend_block(&mut block)
-        .map_err(|denial| denial.at(name.packet(), name.channel()))?;
+    let mends = mend_block(&mut block).map_err(|denial| denial.at(name.packet(), name.channel()))?;
     let (basic, _) = block.split_at(BASIC);
     place.copy_from_slice(basic);
     Ok(mends)

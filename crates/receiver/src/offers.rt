@@ -16,7 +16,7 @@ fn check_offer<'c, C: Carrier>(
 ) -> Result<HeldLine<'c, C>, Denial>
     ensures answer { MatchResult result (λ _. offer_at memory.now (C.meaning carrier.now) line ≡ Ok tt) (λ denial. offer_at memory.now (C.meaning carrier.now) line ≡ Err denial) }
     ensures held { IfOk result (λ held. (held.carrier.now ≡ carrier.now) × (held.line ≡ line)) }
-    ensures fits { IfOk result (λ _. (length memory.now ≡ 304644) × (line ≤ 211)) }
+    ensures low { IfOk result (λ _. line ≤ 211) }
 {
     if line >= LINES {
         return Err(Denial::new(Reason::Off, Layer::Field, line, 0));

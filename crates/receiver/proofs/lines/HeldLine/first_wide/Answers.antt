@@ -1,6 +1,5 @@
-use Rattle.std.proofs.Common.{◌≡◌, ℕ, Bool, true, false, not, leb, rules, arith}
+use Rattle.std.proofs.Common.{◌≡◌, ℕ, true, false, not, leb, rules}
 use Rattle.std.proofs.lemmas.Iterator.{first_from_Range}
-use Rattle.std.proofs.lemmas.Bool.Decides.{nat_tests}
 use Rattle.receiver.proofs.Searching.{found}
 use Rattle.receiver.proofs.lines.HeldLine.first_wide.Goals as goal
 
