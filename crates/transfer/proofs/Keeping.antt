@@ -97,20 +97,8 @@ module _ (mapped : Meaning) (ss : List Step) (p c : ℕ) where
         omega arith)
         (two_lines p c j h))
 
-ok_not_err : (k : MendRecord) (d : Denial) → ◌≡◌ {A = Result MendRecord Denial} (Ok k) (Err d) → ⊥
-ok_not_err k d e = let z : ◌≡◌ {A = ℕ} 0 1 = cc in omega arith
-
-err_same : (d e : Denial) → ◌≡◌ {A = Result MendRecord Denial} (Err d) (Err e) → d ≡ e
-err_same d e same = cc
-
-ok_same : (j k : MendRecord) → ◌≡◌ {A = Result MendRecord Denial} (Ok j) (Ok k) → j ≡ k
-ok_same j k same = cc
-
 missing_same : (n k : ℕ) → ◌≡◌ {A = Result MendRecord Denial} (Err (denied Missing Field n 0)) (Err (denied Missing Field k 0)) → n ≡ k
-missing_same n k e = ap (λ d. d.place.0) (err_same _ _ e)
-
-missing_not_lost : (n p c : ℕ) → ◌≡◌ {A = Result MendRecord Denial} (Err (denied Missing Field n 0)) (Err (denied Lost Code p c)) → ⊥
-missing_not_lost n p c e = let z : ◌≡◌ {A = ℕ} 13 14 = ap (λ d. number_of d.reason) (err_same _ _ e) in omega arith
+missing_same n k e = let d : denied Missing Field n 0 ≡ denied Missing Field k 0 = cc in ap (λ x. x.place.0) d
 
 module _ (mapped : Meaning) (ss : List Step) (m m' : List ℕ) (size : length m ≡ 304644) (G : Gathered mapped ss m m') where
   line : (n : ℕ) → n ≤ 211 → GatheredLine mapped ss m m' n
@@ -268,10 +256,13 @@ module _ (mapped : Meaning) (ss : List Step) (m m' : List ℕ) (size : length m 
 
     module _ (before after : List ℕ) (r : Result MendRecord Denial) where
       no_near : (d : Denial) → r ≡ Err d → Given (gathered m' p c) p c before after r → (v : List ℕ) → WithinTwoBytes gf256 224 (gathered m' p c) v → ⊥
-      no_near d e given v near = let o = (given.gives v near).1 in ok_not_err o.0 d (sym o.1 ∙ e)
+      no_near d e given v near = let o = (given.gives v near).1.1 in cc
 
       not_missing : Given (gathered m' p c) p c before after r → (n : ℕ) → r ≡ Err (denied Missing Field n 0) → ⊥
-      not_missing given n e = missing_not_lost n p c (sym e ∙ (given.lost (no_near _ e given)).1)
+      not_missing given n e =
+          let lost = (given.lost (no_near _ e given)).1 in
+          let d : denied Missing Field n 0 ≡ denied Lost Code p c = cc in
+          let reason : Missing ≡ Lost = ap (λ x. x.reason) d in cc
 
       lost_or_given : Given (gathered m' p c) p c before after r → (q : Result MendRecord Denial) → r ≡ q →
           (r ≡ Err (denied Lost Code p c)) ⊎ ((k : MendRecord) × (r ≡ Ok k))
@@ -298,7 +289,7 @@ module _ (mapped : Meaning) (ss : List Step) (m m' : List ℕ) (size : length m 
       answered (all_there ma mz given) nm = given
 
       not_missing_given : Told before after r → (k : MendRecord) → r ≡ Ok k → IsMissing mapped ss p c → ⊥
-      not_missing_given t k e miss = let o = missing_told t miss in ok_not_err k _ (sym e ∙ o.1)
+      not_missing_given t k e miss = let told = (missing_told t miss).1 in cc
 
       pub promise : (loaded sent : List ℕ) → length sent ≡ 224 → take 219 sent ≡ loaded → CodedBytes gf256 224 sent → Carries mapped p c sent →
           length before ≡ 219 → Asked m' p c before after r → Promise mapped ss p c loaded sent after r
@@ -320,7 +311,7 @@ module _ (mapped : Meaning) (ss : List Step) (m m' : List ℕ) (size : length m 
                 let given = answered t nm in
                 let s = given.sound k e in
                 let o = given.gives s.0 s.1 in
-                let same : o.1.0 ≡ k = ok_same o.1.0 k (sym o.1.1 ∙ e) in
+                let same : o.1.0 ≡ k = let is = o.1.1 in cc in
                 subst (λ b. (v : List ℕ) × (after ≡ take 219 v) × WithinTwoBytes gf256 224 b v × ((u : List ℕ) → WithinTwoBytes gf256 224 b u → u ≡ v) × (places k ≡ differing_bytes v b))
                 (sym (same_block nm g gg)) (s.0, o.0, s.1, s.2, ap places (sym same) ∙ o.1.2);
             as_sent = λ nm sum worsts few g gg.

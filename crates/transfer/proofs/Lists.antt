@@ -5,10 +5,8 @@ use Rattle.transfer.specs.declared.steps.Step.{Step}
 
 -- No list with an element is empty.
 pub not_empty : (b a : List Step) (y : Step) → [] ≡ b ++ y ∷ a → ⊥
-not_empty b a y e =
-    let n : length {A = Step} [] ≡ length (b ++ y ∷ a) = ap length e in
-    let k : length (b ++ y ∷ a) ≡ length b + length (y ∷ a) = length-append b (y ∷ a) in
-    omega arith
+not_empty [] a y e = cc
+not_empty (z ∷ b) a y e = cc
 
 -- A list that ends in x, cut at y: y is the end, or stands before it.
 pub cut_end : (ss b a : List Step) (x y : Step) → ss ++ x ∷ [] ≡ b ++ y ∷ a → ((b ≡ ss) × (y ≡ x)) ⊎ ((a : List Step) × (ss ≡ b ++ y ∷ a))

@@ -11,9 +11,6 @@ use Rattle.receiver.specs.Offers.{by_fault, fault, offer_at, Offered, taken_byte
 use Rattle.transfer.specs.Runs.{Kept, line_byte, mark_of, Taken}
 use Rattle.transfer.specs.Steps.{SoundLine}
 
-not_ok : (d : Denial) → ◌≡◌ {A = Result (Unit {0}) Denial} (Err d) (Ok tt) → ⊥
-not_ok d e = let z : ◌≡◌ {A = ℕ} 0 1 = cc in omega arith
-
 -- What an accepted offer has tested.
 record Allowed (m : List ℕ) (c : Meaning) (k : ℕ) : Type 0 where
   size : length m ≡ 304644
@@ -23,7 +20,7 @@ record Allowed (m : List ℕ) (c : Meaning) (k : ℕ) : Type 0 where
 
 no_fault : (o : Option Denial) → Ok tt ≡ by_fault o → o ≡ None
 no_fault None e = refl
-no_fault (Some d) e = let z : ◌≡◌ {A = ℕ} 0 1 = cc in absurd (omega arith)
+no_fault (Some d) e = cc
 
 passes : (m : List ℕ) (c : Meaning) (k : ℕ) → fits m ≡ true → leb k 211 ≡ true → is_free m k ≡ true → has c k 0 ≡ true →
     offer_at m c k ≡ by_fault (fault (c.word k) k)
@@ -107,7 +104,7 @@ module _ (m : List ℕ) (c : Meaning) (k : ℕ) (m' : List ℕ) (size : length m
   line (Ok _) e o =
       let a = allowed m c k e in
       ⊎_elim (λ (s : n ≡ k). line_same s a o.1) (λ (s : n ≡ k → ⊥). line_other s a.low o.1) (cases_eq n k)
-  line (Err d) e o = line_refused (λ a. let z : Err d ≡ Ok tt = e ∙ accepted m c k a in not_ok d z) o
+  line (Err d) e o = line_refused (λ a. let ok = accepted m c k a in cc) o
 
 -- An offer keeps the memory's length, and in unfit memory every byte.
 pub offer_size : (m : List ℕ) (word : ℕ → ℕ) (k : ℕ) (m' : List ℕ) (r : Result (Unit {0}) Denial) → Offered m word k m' r → length m' ≡ length m

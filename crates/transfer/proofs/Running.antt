@@ -18,9 +18,6 @@ after_push c [] x = refl
 after_push c (Write l w v ∷ ss) x = after_push (written c l w v) ss x
 after_push c (Offer k ∷ ss) x = after_push c ss x
 
-not_write : (n l w v : ℕ) → Offer n ≡ Write l w v → ⊥
-not_write n l w v e = let z : ◌≡◌ {A = ℕ} 0 1 = cc in omega arith
-
 module _ (c : Meaning) (ss : List Step) where
   -- A sound copy stays one, and the first stays the first.
   copy_more : (b : List Step) (n : ℕ) (x : Step) → SoundCopy c ss b n → SoundCopy c (ss ++ x ∷ []) b n
@@ -74,7 +71,7 @@ module _ (c : Meaning) (ss : List Step) (m m' : List ℕ) (r : Ran c ss m m') wh
     free = λ s n h z. ⊎_elim
         (λ (p : (b : List Step) × FirstCopy c ss b n × Taken (after_steps c b) n m'). inl (p.0, first_more c ss p.0 n (Write l w v) p.1, p.2))
         (λ (p : ((b : List Step) → SoundCopy c ss b n → ⊥) × Kept n m m').
-        inr (none_more c ss n (Write l w v) (λ e _. not_write n l w v e) p.0, p.1))
+        inr (none_more c ss n (Write l w v) (λ e _. cc) p.0, p.1))
         (r.free s n h z);
   }
 

@@ -13,7 +13,7 @@ use Rattle.transfer.specs.declared.steps.Step.TheVariants.{Offer, Write}
 
 none_or_not : (o : Option Denial) → (o ≡ None) ⊎ (o ≡ None → ⊥)
 none_or_not None = inl refl
-none_or_not (Some d) = inr (λ e. let z : ◌≡◌ {A = ℕ} 0 1 = cc in omega arith)
+none_or_not (Some d) = inr (λ e. cc)
 
 sound_or_not : (c : Meaning) (n : ℕ) → SoundLine c n ⊎ (SoundLine c n → ⊥)
 sound_or_not c n =
@@ -85,11 +85,11 @@ module _ (S : List Step → Type 0) (h : List Step → ℕ) (x : Step) (ss : Lis
   join (inr ne) (inr r) = inr (r.0, later_best r.0 (λ is s. absurd (ne (is, s))) r.1)
 
 is_here : (x : Step) (n : ℕ) (A : Type 0) → A ⊎ (A → ⊥) → ((x ≡ Offer n) × A) ⊎ ((x ≡ Offer n) × A → ⊥)
-is_here (Write l w v) n A d = inr (λ t. let i = t.0 in let z : ◌≡◌ {A = ℕ} 0 1 = cc in omega arith)
+is_here (Write l w v) n A d = inr (λ t. let i = t.0 in cc)
 is_here (Offer k) n A d =
     ⊎_elim
     (λ (s : k ≡ n). ⊎_elim (λ (a : A). inl (ap Offer s, a)) (λ (na : A → ⊥). inr (λ t. na t.1)) d)
-    (λ (ne : k ≡ n → ⊥). inr (λ t. let i = t.0 in let z : k ≡ n = cc in ne z))
+    (λ (ne : k ≡ n → ⊥). inr (λ t. let i = t.0 in ne (cc)))
     (cases_eq k n)
 
 best : (ss : List Step) (S : List Step → Type 0) → ((b : List Step) → S b ⊎ (S b → ⊥)) → (h : List Step → ℕ) (n : ℕ)
