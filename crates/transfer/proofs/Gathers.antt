@@ -1,7 +1,8 @@
 -- What a run from beginning to closing leaves of each line.
 use Rattle.std.proofs.Common.{◌≡◌, ℕ, ◌+◌, ◌-◌, ◌*◌, ◌<◌, ◌≤◌, ◌⊎◌, List, ◌∷◌, ◌++◌, length, get_or, take, replicate, sym, ap, ◌∙◌, subst, inl, inr, ⊎_elim, arith}
-use Rattle.std.proofs.lemmas.List.{get_or_append_left, get_or-append_right, get_or-replicate, get_or-take, length-append, length-replicate, length-take, length-take-le}
-use Rattle.std.proofs.lemmas.Bool.{cases_eq, cond-false, cond-true, eq-eqb, ne_eqb}
+use Rattle.std.proofs.lemmas.List.{places}
+use Rattle.std.proofs.lemmas.Bool.{cond-false, cond-true, eq-eqb, ne_eqb}
+use Rattle.std.proofs.lemmas.Bool.Decides.{nat_tests}
 use Rattle.carriers.specs.Meaning.{Meaning}
 use Rattle.layout.specs.Cleared.{cleared}
 use Rattle.layout.specs.Words.{received_byte}
@@ -25,18 +26,15 @@ first_once c ss b b' n p q =
 
 cleared_length : (m : List ℕ) (k : ℕ) → k ≤ length m → length (cleared m k) ≡ length m
 unfolding cleared
-cleared_length m k h = simp (length-append, length-take, length-replicate) (omega arith)
+cleared_length m k h = grind (arith, places)
 
 cleared_low : (m : List ℕ) (k i : ℕ) → k ≤ length m → i < k → get_or (cleared m k) i 0 ≡ get_or m i 0
 unfolding cleared
-cleared_low m k i h l =
-    let g : length (take k m) ≡ k = length-take-le k m h in
-    get_or_append_left (take k m) (replicate (length m - k) 0) 0 i (omega arith) ∙ get_or-take k m i 0 l
+cleared_low m k i h l = grind (arith, places)
 
 cleared_high : (m : List ℕ) (k i : ℕ) → k ≤ i → i < length m → get_or (cleared m k) i 0 ≡ 0
 unfolding cleared
-cleared_high m k i h l =
-    get_or-append_right (take k m) (replicate (length m - k) 0) k i 0 (length-take-le k m (omega arith)) h ∙ get_or-replicate (length m - k) (i - k) 0 0 (omega arith)
+cleared_high m k i h l = grind (arith, places)
 
 begun_fit : (m : List ℕ) → length m ≡ 304644 → begun m ≡ cleared m 304432
 begun_fit m s = cond-true _ _ _ (eq-eqb _ _ s)
@@ -45,11 +43,7 @@ begun_unfit : (m : List ℕ) → (length m ≡ 304644 → ⊥) → begun m ≡ m
 begun_unfit m s = cond-false _ _ _ (ne_eqb _ _ s)
 
 begun_length : (m : List ℕ) → length (begun m) ≡ length m
-begun_length m =
-    ⊎_elim
-    (λ (s : length m ≡ 304644). ap length (begun_fit m s) ∙ cleared_length m 304432 (omega arith))
-    (λ (s : length m ≡ 304644 → ⊥). ap length (begun_unfit m s))
-    (cases_eq (length m) 304644)
+begun_length m = grind (arith, nat_tests, cleared_length)
 
 module _ (c : Meaning) (ss : List Step) (m m' : List ℕ) (r : Ran c ss (begun m) m') where
   gathered_line : length m ≡ 304644 → (n : ℕ) → n ≤ 211 → GatheredLine c ss m m' n
@@ -67,12 +61,12 @@ module _ (c : Meaning) (ss : List Step) (m m' : List ℕ) (r : Ran c ss (begun m
         binary = inr p.2.mark;
         first_copy = λ b q. subst B (first_once c ss p.0 b n p.1 q) p.2.bytes;
         has_first = λ _. (p.0, p.1);
-        untouched = λ z. let one : ◌≡◌ {A = ℕ} 1 0 = sym p.2.mark ∙ z in absurd (omega arith);
+        untouched = λ z. absurd (omega (arith, p.2.mark));
       })
       (λ (p : ((b : List Step) → SoundCopy c ss b n → ⊥) × Kept n (begun m) m').
       let zero-mark : mark_of m' n ≡ 0 = p.1.mark ∙ mark in
       record {
-        marked = ((λ one. let z : ◌≡◌ {A = ℕ} 1 0 = sym one ∙ zero-mark in absurd (omega arith)), (λ o. absurd (p.0 o.0 o.1)));
+        marked = ((λ one. absurd (omega arith)), (λ o. absurd (p.0 o.0 o.1)));
         binary = inl zero-mark;
         first_copy = λ b q. absurd (p.0 b q.copy);
         has_first = λ o. absurd (p.0 o.0 o.1);

@@ -6,9 +6,6 @@ use Rattle.transfer.specs.declared.steps.Step.{Step}
 use Rattle.transfer.proofs.Running.{after_more, answers_more, ran_none, run_more}
 use Rattle.transfer.proofs.steps.run.Goals as goal
 
-pub loop-i-init : goal.loop-i-init
-loop-i-init g c = (refl, refl, ran_none _ _, refl, refl, (λ k h. absurd (omega arith)), (λ k h. refl))
-
 pub loop-i-preserved : goal.loop-i-preserved
 loop-i-preserved g c =
     let inv = c.loop-i.invariant in
