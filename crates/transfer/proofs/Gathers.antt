@@ -16,13 +16,11 @@ use Rattle.transfer.specs.declared.steps.Step.TheVariants.{Offer}
 -- A line has one first sound copy.
 first_once : (c : Meaning) (ss b b' : List Step) (n : ℕ) → FirstCopy c ss b n → FirstCopy c ss b' n → b ≡ b'
 first_once c ss b b' n p q =
-    ⊎_elim
-    (λ (s : b ≡ b'). s)
-    (λ (s : ((a : List Step) × (b' ≡ b ++ Offer n ∷ a)) ⊎ ((a : List Step) × (b ≡ b' ++ Offer n ∷ a))). ⊎_elim
-    (λ (t : (a : List Step) × (b' ≡ b ++ Offer n ∷ a)). absurd (q.none_before b (record { rest = t.0; there = t.1; sound = p.copy.sound })))
-    (λ (t : (a : List Step) × (b ≡ b' ++ Offer n ∷ a)). absurd (p.none_before b' (record { rest = t.0; there = t.1; sound = q.copy.sound })))
-    s)
-    (cut_twice b b' p.copy.rest q.copy.rest (Offer n) (Offer n) (sym p.copy.there ∙ q.copy.there))
+    elim (cut_twice b b' p.copy.rest q.copy.rest (Offer n) (Offer n) (sym p.copy.there ∙ q.copy.there)) [
+      | inl same ↦ same
+      | inr (inl later) ↦ absurd (q.none_before b (record { rest = later.0; there = later.1; sound = p.copy.sound }))
+      | inr (inr earlier) ↦ absurd (p.none_before b' (record { rest = earlier.0; there = earlier.1; sound = q.copy.sound }))
+    ]
 
 cleared_length : (m : List ℕ) (k : ℕ) → k ≤ length m → length (cleared m k) ≡ length m
 unfolding cleared
@@ -53,26 +51,26 @@ module _ (c : Meaning) (ss : List Step) (m m' : List ℕ) (r : Ran c ss (begun m
       ap (λ t. mark_of t n) (begun_fit m s) ∙ cleared_high m 304432 (304432 + n) (omega arith) (omega arith) in
       let low : (j : ℕ) → j < 1436 → line_byte (begun m) n j ≡ line_byte m n j = λ j l.
       ap (λ t. line_byte t n j) (begun_fit m s) ∙ cleared_low m 304432 (1436 * n + j) (omega arith) (omega arith) in
-      ⊎_elim
-      (λ (p : (b : List Step) × FirstCopy c ss b n × Taken (after_steps c b) n m').
-      let B : List Step → Type 0 = λ b. (j : ℕ) → j < 1436 → line_byte m' n j ≡ received_byte ((after_steps c b).word n (2 + j)) in
-      record {
-        marked = ((λ _. (p.0, p.1.copy)), (λ _. p.2.mark));
-        binary = inr p.2.mark;
-        first_copy = λ b q. subst B (first_once c ss p.0 b n p.1 q) p.2.bytes;
-        has_first = λ _. (p.0, p.1);
-        untouched = λ z. absurd (omega (arith, p.2.mark));
-      })
-      (λ (p : ((b : List Step) → SoundCopy c ss b n → ⊥) × Kept n (begun m) m').
-      let zero-mark : mark_of m' n ≡ 0 = p.1.mark ∙ mark in
-      record {
-        marked = ((λ one. absurd (omega arith)), (λ o. absurd (p.0 o.0 o.1)));
-        binary = inl zero-mark;
-        first_copy = λ b q. absurd (p.0 b q.copy);
-        has_first = λ o. absurd (p.0 o.0 o.1);
-        untouched = λ _ j l. p.1.bytes j l ∙ low j l;
-      })
-      (r.free size n h mark)
+      elim (r.free size n h mark) [
+        | inl p ↦
+            let B : List Step → Type 0 = λ b. (j : ℕ) → j < 1436 → line_byte m' n j ≡ received_byte ((after_steps c b).word n (2 + j)) in
+            record {
+              marked = ((λ _. (p.0, p.1.copy)), (λ _. p.2.mark));
+              binary = inr p.2.mark;
+              first_copy = λ b q. subst B (first_once c ss p.0 b n p.1 q) p.2.bytes;
+              has_first = λ _. (p.0, p.1);
+              untouched = λ z. absurd (omega (arith, p.2.mark));
+            }
+        | inr p ↦
+            let zero-mark : mark_of m' n ≡ 0 = p.1.mark ∙ mark in
+            record {
+              marked = ((λ one. absurd (omega arith)), (λ o. absurd (p.0 o.0 o.1)));
+              binary = inl zero-mark;
+              first_copy = λ b q. absurd (p.0 b q.copy);
+              has_first = λ o. absurd (p.0 o.0 o.1);
+              untouched = λ _ j l. p.1.bytes j l ∙ low j l;
+            }
+      ]
 
   pub gathered : Gathered c ss m m'
   gathered = record {

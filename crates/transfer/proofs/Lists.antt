@@ -16,10 +16,10 @@ cut_end (s ∷ ss) [] a x y e = let h : s ≡ y = cc in inr (ss, ap (λ t. t ∷
 cut_end (s ∷ ss) (z ∷ b) a x y e =
     let h : s ≡ z = cc in
     let t : ss ++ x ∷ [] ≡ b ++ y ∷ a = cc in
-    ⊎_elim
-    (λ (p : (b ≡ ss) × (y ≡ x)). let q : z ∷ b ≡ s ∷ ss = let i = p.0 in cc in inl (q, p.1))
-    (λ (p : (a : List Step) × (ss ≡ b ++ y ∷ a)). let q : s ∷ ss ≡ z ∷ (b ++ y ∷ p.0) = let i = p.1 in cc in inr (p.0, q))
-    (cut_end ss b a x y t)
+    elim (cut_end ss b a x y t) [
+      | inl p ↦ let i = p.0 in let q : z ∷ b ≡ s ∷ ss = cc in inl (q, p.1)
+      | inr p ↦ let i = p.1 in let q : s ∷ ss ≡ z ∷ (b ++ y ∷ p.0) = cc in inr (p.0, q)
+    ]
 
 -- A list cut twice: at one place, or at one before the other.
 pub cut_twice : (b b' r r' : List Step) (y y' : Step) → b ++ y ∷ r ≡ b' ++ y' ∷ r' →
@@ -30,10 +30,8 @@ cut_twice (z ∷ b) [] r r' y y' e = let h : z ≡ y' = cc in inr (inr (b, ap (�
 cut_twice (z ∷ b) (z' ∷ b') r r' y y' e =
     let h : z ≡ z' = cc in
     let t : b ++ y ∷ r ≡ b' ++ y' ∷ r' = cc in
-    ⊎_elim
-    (λ (p : b ≡ b'). let q : z ∷ b ≡ z' ∷ b' = cc in inl q)
-    (λ (s : ((a : List Step) × (b' ≡ b ++ y ∷ a)) ⊎ ((a : List Step) × (b ≡ b' ++ y' ∷ a))). inr (⊎_elim
-    (λ (p : (a : List Step) × (b' ≡ b ++ y ∷ a)). let i = p.1 in let q : z' ∷ b' ≡ z ∷ (b ++ y ∷ p.0) = cc in inl (p.0, q))
-    (λ (p : (a : List Step) × (b ≡ b' ++ y' ∷ a)). let i = p.1 in let q : z ∷ b ≡ z' ∷ (b' ++ y' ∷ p.0) = cc in inr (p.0, q))
-    s))
-    (cut_twice b b' r r' y y' t)
+    elim (cut_twice b b' r r' y y' t) [
+      | inl p ↦ let q : z ∷ b ≡ z' ∷ b' = cc in inl q
+      | inr (inl p) ↦ let i = p.1 in let q : z' ∷ b' ≡ z ∷ (b ++ y ∷ p.0) = cc in inr (inl (p.0, q))
+      | inr (inr p) ↦ let i = p.1 in let q : z ∷ b ≡ z' ∷ (b' ++ y' ∷ p.0) = cc in inr (inr (p.0, q))
+    ]
