@@ -83,13 +83,14 @@ module _ (m : List ℕ) (c : Meaning) (k : ℕ) (m' : List ℕ) (size : length m
 
   line_other : (n ≡ k → ⊥) → k ≤ 211 → ((i : ℕ) → get_or m' i 0 ≡ taken_byte m (c.word k) k i) → Line m c k m' n
   line_other ne low' bytes =
-      let apart : (n < k) ⊎ (k < n) = ⊎_elim (λ (l : n < k). inl l) (λ (l : k ≤ n). inr (omega arith)) (cases_lt n k) in
+      let apart : (j : ℕ) → j < 1436 → (1436 * n + j < 1436 * k) ⊎ (1436 * k + 1436 ≤ 1436 * n + j) = λ j h.
+      elim (cases_lt n k) [ inl l ↦ inl (omega arith) | inr l ↦ inr (omega arith) ] in
       inr (
         (λ s _ _. absurd (ne s)),
         record {
           mark = bytes (304432 + n) ∙ taken_else m (c.word k) k (304432 + n) (λ q. ne (omega arith)) (inr (omega arith));
           bytes = λ j h. bytes (1436 * n + j)
-              ∙ taken_else m (c.word k) k (1436 * n + j) (λ q. omega arith) (⊎_elim (λ (x : n < k). inl (omega arith)) (λ (x : k < n). inr (omega arith)) apart);
+              ∙ taken_else m (c.word k) k (1436 * n + j) (λ q. omega arith) (apart j h);
         },
       )
 
@@ -103,7 +104,7 @@ module _ (m : List ℕ) (c : Meaning) (k : ℕ) (m' : List ℕ) (size : length m
   pub line : (r : Result (Unit {0}) Denial) → r ≡ offer_at m c k → Offered m (c.word k) k m' r → Line m c k m' n
   line (Ok _) e o =
       let a = allowed m c k e in
-      ⊎_elim (λ (s : n ≡ k). line_same s a o.1) (λ (s : n ≡ k → ⊥). line_other s a.low o.1) (cases_eq n k)
+      elim (cases_eq n k) [ inl s ↦ line_same s a o.1 | inr s ↦ line_other s a.low o.1 ]
   line (Err d) e o = line_refused (λ a. let ok = accepted m c k a in cc) o
 
 -- An offer keeps the memory's length, and in unfit memory every byte.

@@ -33,18 +33,18 @@ module _ (c : Meaning) (ss : List Step) where
   -- A sound copy of the longer list is made by the last step, or was one before.
   copy_less : (b : List Step) (n : ℕ) (x : Step) → SoundCopy c (ss ++ x ∷ []) b n → ((b ≡ ss) × (Offer n ≡ x)) ⊎ SoundCopy c ss b n
   copy_less b n x o =
-      ⊎_elim
-      (λ (p : (b ≡ ss) × (Offer n ≡ x)). inl p)
-      (λ (p : (a : List Step) × (ss ≡ b ++ Offer n ∷ a)). inr (record { rest = p.0; there = p.1; sound = o.sound }))
-      (cut_end ss b o.rest x (Offer n) o.there)
+      elim (cut_end ss b o.rest x (Offer n) o.there) [
+        | inl p ↦ inl p
+        | inr p ↦ inr (record { rest = p.0; there = p.1; sound = o.sound })
+      ]
 
   none_more : (n : ℕ) (x : Step) → (Offer n ≡ x → SoundLine (after_steps c ss) n → ⊥) → ((b : List Step) → SoundCopy c ss b n → ⊥) →
       (b : List Step) → SoundCopy c (ss ++ x ∷ []) b n → ⊥
   none_more n x last before b o =
-      ⊎_elim
-      (λ (p : (b ≡ ss) × (Offer n ≡ x)). last p.1 (subst (λ d. SoundLine (after_steps c d) n) p.0 o.sound))
-      (before b)
-      (copy_less b n x o)
+      elim (copy_less b n x o) [
+        | inl p ↦ last p.1 (subst (λ d. SoundLine (after_steps c d) n) p.0 o.sound)
+        | inr p ↦ before b p
+      ]
 
 kept_kept : (n : ℕ) (m m' m'' : List ℕ) → Kept n m m' → Kept n m' m'' → Kept n m m''
 kept_kept n m m' m'' p q = record { mark = q.mark ∙ p.mark; bytes = λ j h. q.bytes j h ∙ p.bytes j h }
@@ -68,45 +68,37 @@ module _ (c : Meaning) (ss : List Step) (m m' : List ℕ) (r : Ran c ss m m') wh
     size = r.size;
     unfit = r.unfit;
     held = r.held;
-    free = λ s n h z. ⊎_elim
-        (λ (p : (b : List Step) × FirstCopy c ss b n × Taken (after_steps c b) n m'). inl (p.0, first_more c ss p.0 n (Write l w v) p.1, p.2))
-        (λ (p : ((b : List Step) → SoundCopy c ss b n → ⊥) × Kept n m m').
-        inr (none_more c ss n (Write l w v) (λ e _. cc) p.0, p.1))
-        (r.free s n h z);
+    free = λ s n h z. elim (r.free s n h z) [
+      | inl p ↦ inl (p.0, first_more c ss p.0 n (Write l w v) p.1, p.2)
+      | inr p ↦ inr (none_more c ss n (Write l w v) (λ e _. cc) p.0, p.1)
+    ];
   }
 
   module _ (k : ℕ) (m'' : List ℕ) (each : length m ≡ 304644 → (n : ℕ) → n ≤ 211 → Line m' (after_steps c ss) k m'' n) where
     offer_held : length m ≡ 304644 → (n : ℕ) → n ≤ 211 → (mark_of m n ≡ 0 → ⊥) → Kept n m m''
     offer_held s n h set_before =
         let p = r.held s n h set_before in
-        ⊎_elim
-        (λ (t : (n ≡ k) × SoundLine (after_steps c ss) n × (mark_of m' n ≡ 0) × Taken (after_steps c ss) n m''). absurd (set_before (sym p.mark ∙ t.2)))
-        (λ (t : (n ≡ k → mark_of m' n ≡ 0 → SoundLine (after_steps c ss) n → ⊥) × Kept n m' m''). kept_kept n m m' m'' p t.1)
-        (each s n h)
+        elim (each s n h) [
+          | inl t ↦ absurd (set_before (sym p.mark ∙ t.2))
+          | inr t ↦ kept_kept n m m' m'' p t.1
+        ]
 
     offer_free : length m ≡ 304644 → (n : ℕ) → n ≤ 211 → mark_of m n ≡ 0 → Ends c (ss ++ Offer k ∷ []) m m'' n
     offer_free s n h z =
-        ⊎_elim
-        (λ (p : (b : List Step) × FirstCopy c ss b n × Taken (after_steps c b) n m'). ⊎_elim
-        (λ (t : (n ≡ k) × SoundLine (after_steps c ss) n × (mark_of m' n ≡ 0) × Taken (after_steps c ss) n m'').
-        let one : ◌≡◌ {A = ℕ} 1 0 = sym p.2.mark ∙ t.2 in absurd (omega arith))
-        (λ (t : (n ≡ k → mark_of m' n ≡ 0 → SoundLine (after_steps c ss) n → ⊥) × Kept n m' m'').
-        inl (p.0, first_more c ss p.0 n (Offer k) p.1, taken_kept (after_steps c p.0) n m' m'' p.2 t.1))
-        (each s n h))
-        (λ (p : ((b : List Step) → SoundCopy c ss b n → ⊥) × Kept n m m'). ⊎_elim
-        (λ (t : (n ≡ k) × SoundLine (after_steps c ss) n × (mark_of m' n ≡ 0) × Taken (after_steps c ss) n m'').
-        inl (
-          ss,
-          record {
-            copy = record { rest = []; there = ap (λ i. ss ++ Offer i ∷ []) (sym t.0); sound = t.1 };
-            none_before = p.0;
-          },
-          t.3,
-        ))
-        (λ (t : (n ≡ k → mark_of m' n ≡ 0 → SoundLine (after_steps c ss) n → ⊥) × Kept n m' m'').
-        inr (none_more c ss n (Offer k) (λ e g. let nk : n ≡ k = cc in t.0 nk (p.1.mark ∙ z) g) p.0, kept_kept n m m' m'' p.1 t.1))
-        (each s n h))
-        (r.free s n h z)
+        elim (r.free s n h z) [
+          | inl p ↦ elim (each s n h) [
+              | inl t ↦ absurd (omega (arith, p.2.mark, t.2))
+              | inr t ↦ inl (p.0, first_more c ss p.0 n (Offer k) p.1, taken_kept (after_steps c p.0) n m' m'' p.2 t.1)
+            ]
+          | inr p ↦ elim (each s n h) [
+              | inl t ↦
+                  let there : ss ++ Offer k ∷ [] ≡ ss ++ Offer n ∷ [] = let same = t.0 in cc in
+                  inl (ss, record { copy = record { rest = []; there = there; sound = t.1 }; none_before = p.0 }, t.3)
+              | inr t ↦
+                  let last : Offer n ≡ Offer k → SoundLine (after_steps c ss) n → ⊥ = λ e g. let same : n ≡ k = cc in t.0 same (p.1.mark ∙ z) g in
+                  inr (none_more c ss n (Offer k) last p.0, kept_kept n m m' m'' p.1 t.1)
+            ]
+        ]
 
 -- The run with one step more.
 pub ran_more : (c : Meaning) (ss : List Step) (m m' m'' : List ℕ) (x : Step) (r : Result (Unit {0}) Denial) → Ran c ss m m' →
