@@ -1,11 +1,7 @@
 -- What the steps of a run from its beginning are answered.
-use Rattle.std.proofs.Common.{◌≡◌, ℕ, false, leb, List, length, Err, sym, ap, ◌∙◌, inl, inr, arith}
+use Rattle.std.proofs.Common.{◌≡◌, ℕ, List, length, sym, ◌∙◌, inl, inr, arith}
 use Rattle.std.proofs.lemmas.Bool.Decides.{nat_tests}
-use Rattle.std.proofs.lemmas.Bool.{eq-eqb, le-leb, lt-leb, ne_eqb}
 use Rattle.carriers.specs.Meaning.{Meaning}
-use Rattle.denial.specs.Denials.{denied}
-use Rattle.denial.specs.declared.Reason.TheVariants.{Memory}
-use Rattle.denial.specs.declared.Layer.TheVariants.{Field}
 use Rattle.receiver.specs.Memory.{begun}
 use Rattle.transfer.proofs.Gathers.{gathered}
 use Rattle.transfer.specs.Answers.{Answer, Answered, AnsweredIn, Answers, AnswersIn}
@@ -21,7 +17,7 @@ answered c before m (Offer n) r a =
       (λ ne. let no : length a.memory ≡ 304644 → ⊥ = λ e. ne (sym size ∙ e) in a.answer ∙ grind (arith, nat_tests)),
       (λ fit high. a.answer ∙ grind (arith, nat_tests)),
       (λ fit low sound. let one = (all.lines fit n low).marked.1 sound in a.answer ∙ grind (arith, nat_tests)),
-      (λ fit low none. 
+      (λ fit low none.
           let line = all.lines fit n low in
           let free : mark_of a.memory n ≡ 0 = elim line.binary [ inl z ↦ z | inr o ↦ absurd (none (line.marked.0 o)) ] in a.answer ∙ grind (arith, nat_tests)),
     )

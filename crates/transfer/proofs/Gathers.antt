@@ -1,5 +1,5 @@
 -- What a run from beginning to closing leaves of each line.
-use Rattle.std.proofs.Common.{◌≡◌, ℕ, ◌+◌, ◌-◌, ◌*◌, ◌<◌, ◌≤◌, ◌⊎◌, List, ◌∷◌, ◌++◌, length, get_or, take, replicate, sym, ap, ◌∙◌, subst, inl, inr, ⊎_elim, arith}
+use Rattle.std.proofs.Common.{◌≡◌, ℕ, ◌+◌, ◌*◌, ◌<◌, ◌≤◌, List, length, get_or, sym, ap, ◌∙◌, subst, inl, inr, arith}
 use Rattle.std.proofs.lemmas.List.{places}
 use Rattle.std.proofs.lemmas.Bool.{cond-false, cond-true, eq-eqb, ne_eqb}
 use Rattle.std.proofs.lemmas.Bool.Decides.{nat_tests}
@@ -8,8 +8,8 @@ use Rattle.layout.specs.Cleared.{cleared}
 use Rattle.layout.specs.Words.{received_byte}
 use Rattle.receiver.specs.Memory.{begun}
 use Rattle.transfer.proofs.Lists.{cut_twice}
-use Rattle.transfer.specs.Runs.{Gathered, GatheredLine, Kept, line_byte, mark_of, Ran, Taken}
-use Rattle.transfer.specs.Steps.{after_steps, FirstCopy, SoundCopy}
+use Rattle.transfer.specs.Runs.{Gathered, GatheredLine, line_byte, mark_of, Ran}
+use Rattle.transfer.specs.Steps.{after_steps, FirstCopy}
 use Rattle.transfer.specs.declared.steps.Step.{Step}
 use Rattle.transfer.specs.declared.steps.Step.TheVariants.{Offer}
 

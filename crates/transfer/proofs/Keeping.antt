@@ -1,5 +1,5 @@
 -- From what a run leaves, line by line, to what is promised of a block.
-use Rattle.std.proofs.Common.{◌≡◌, ℕ, ◌+◌, ◌*◌, ◌%◌, ◌<◌, ◌≤◌, Bool, false, not, ◌&&◌, eqb, ◌⊎◌, ◌↔◌, List, [], ◌∷◌, length, get_or, take, Some, None, Ok, Err, Result, sym, refl, ap, ◌∙◌, subst, inl, inr, ⊎_elim, arith}
+use Rattle.std.proofs.Common.{◌≡◌, ℕ, ◌+◌, ◌*◌, ◌%◌, ◌<◌, ◌≤◌, Bool, false, not, ◌&&◌, eqb, ◌⊎◌, ◌↔◌, List, [], ◌∷◌, length, get_or, take, Some, None, Ok, Err, Result, sym, refl, ap, ◌∙◌, subst, inl, inr, arith}
 use Rattle.std.proofs.lemmas.List.{ext_get_or}
 use Rattle.std.proofs.lemmas.Bool.{cases_eq, eq-eqb, le-leb, ne_eqb}
 use Rattle.std.proofs.lemmas.Bool.Decides.{nat_tests}
@@ -7,7 +7,7 @@ use Rattle.carriers.specs.Meaning.{Meaning}
 use Rattle.codec.specs.Mend.{places}
 use Rattle.codec.specs.declared.record.MendRecord.{MendRecord}
 use Rattle.codewords.specs.Bytes.{CodedBytes, differing_bytes, WithinTwoBytes}
-use Rattle.denial.specs.Denials.{denied, number_of}
+use Rattle.denial.specs.Denials.{denied}
 use Rattle.denial.specs.declared.Denial.{Denial}
 use Rattle.denial.specs.declared.Reason.TheVariants.{Lost, Missing}
 use Rattle.denial.specs.declared.Layer.TheVariants.{Code, Field}
@@ -207,18 +207,18 @@ module _ (mapped : Meaning) (ss : List Step) (m m' : List ℕ) (size : length m 
                 let is : ask_refusal m' p c before ≡ Some (denied Missing Field a 0) = refusal ∙ grind (arith, nat_tests) in
                 absent a (asked.refuses _ is).1 crossed_first na (λ k x l. absurd (before_first k x l))
             | inr ma ↦ elim (cases_eq z a) [
-                | inl i ↦
+              | inl i ↦
+                  let is : ask_refusal m' p c before ≡ None = refusal ∙ grind (arith, nat_tests) in
+                  all_there ma (subst (λ n. mark_of m' n ≡ 1) (sym i) ma) (asked.answers is)
+              | inr ne ↦ elim (line z (low 223 (omega arith))).binary [
+                | inl nz ↦
+                    let is : ask_refusal m' p c before ≡ Some (denied Missing Field z 0) = refusal ∙ grind (arith, nat_tests) in
+                    absent z (asked.refuses _ is).1 crossed_last nz (before_last ma)
+                | inr mz ↦
                     let is : ask_refusal m' p c before ≡ None = refusal ∙ grind (arith, nat_tests) in
-                    all_there ma (subst (λ n. mark_of m' n ≡ 1) (sym i) ma) (asked.answers is)
-                | inr ne ↦ elim (line z (low 223 (omega arith))).binary [
-                    | inl nz ↦
-                        let is : ask_refusal m' p c before ≡ Some (denied Missing Field z 0) = refusal ∙ grind (arith, nat_tests) in
-                        absent z (asked.refuses _ is).1 crossed_last nz (before_last ma)
-                    | inr mz ↦
-                        let is : ask_refusal m' p c before ≡ None = refusal ∙ grind (arith, nat_tests) in
-                        all_there ma mz (asked.answers is)
-                  ]
+                    all_there ma mz (asked.answers is)
               ]
+            ]
           ]
 
     all_marked : mark_of m' (byte_line p c 0) ≡ 1 → mark_of m' (byte_line p c 223) ≡ 1 → (n : ℕ) → Crossed p c n → mark_of m' n ≡ 1

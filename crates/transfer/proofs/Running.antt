@@ -1,5 +1,5 @@
 -- A run goes on by one step.
-use Rattle.std.proofs.Common.{◌≡◌, ℕ, ◌+◌, ◌<◌, ◌≤◌, ◌⊎◌, List, [], ◌∷◌, ◌++◌, length, get_or, take, set, Ok, Result, sym, refl, ap, ◌∙◌, subst, inl, inr, ⊎_elim, arith, length-set, get_or-set_other, get_or-set_same}
+use Rattle.std.proofs.Common.{◌≡◌, ℕ, ◌+◌, ◌<◌, ◌≤◌, ◌⊎◌, List, [], ◌∷◌, ◌++◌, length, get_or, take, set, Ok, Result, sym, refl, ap, ◌∙◌, subst, inl, inr, arith, length-set, get_or-set_other, get_or-set_same}
 use native.Mathlib.Decide.{ℕ_discrete}
 use Rattle.std.proofs.lemmas.List.{append_assoc, get_or_default, take_more}
 use Rattle.carriers.specs.Meaning.{Meaning, written}
@@ -87,17 +87,17 @@ module _ (c : Meaning) (ss : List Step) (m m' : List ℕ) (r : Ran c ss m m') wh
     offer_free s n h z =
         elim (r.free s n h z) [
           | inl p ↦ elim (each s n h) [
-              | inl t ↦ absurd (omega (arith, p.2.mark, t.2))
-              | inr t ↦ inl (p.0, first_more c ss p.0 n (Offer k) p.1, taken_kept (after_steps c p.0) n m' m'' p.2 t.1)
-            ]
+            | inl t ↦ absurd (omega (arith, p.2.mark, t.2))
+            | inr t ↦ inl (p.0, first_more c ss p.0 n (Offer k) p.1, taken_kept (after_steps c p.0) n m' m'' p.2 t.1)
+          ]
           | inr p ↦ elim (each s n h) [
-              | inl t ↦
-                  let there : ss ++ Offer k ∷ [] ≡ ss ++ Offer n ∷ [] = let same = t.0 in cc in
-                  inl (ss, record { copy = record { rest = []; there = there; sound = t.1 }; none_before = p.0 }, t.3)
-              | inr t ↦
-                  let last : Offer n ≡ Offer k → SoundLine (after_steps c ss) n → ⊥ = λ e g. let same : n ≡ k = cc in t.0 same (p.1.mark ∙ z) g in
-                  inr (none_more c ss n (Offer k) last p.0, kept_kept n m m' m'' p.1 t.1)
-            ]
+            | inl t ↦
+                let there : ss ++ Offer k ∷ [] ≡ ss ++ Offer n ∷ [] = let same = t.0 in cc in
+                inl (ss, record { copy = record { rest = []; there = there; sound = t.1 }; none_before = p.0 }, t.3)
+            | inr t ↦
+                let last : Offer n ≡ Offer k → SoundLine (after_steps c ss) n → ⊥ = λ e g. let same : n ≡ k = cc in t.0 same (p.1.mark ∙ z) g in
+                inr (none_more c ss n (Offer k) last p.0, kept_kept n m m' m'' p.1 t.1)
+          ]
         ]
 
 -- The run with one step more.

@@ -1,9 +1,9 @@
-use Rattle.std.proofs.Common.{List, refl, ap, ◌∙◌, subst, arith}
+use Rattle.std.proofs.Common.{List, ap, ◌∙◌, subst, arith}
 use Rattle.std.proofs.lemmas.List.{take_all}
 use Rattle.transfer.specs.Runs.{Ran}
 use Rattle.transfer.specs.Steps.{after_steps}
 use Rattle.transfer.specs.declared.steps.Step.{Step}
-use Rattle.transfer.proofs.Running.{after_more, answers_more, ran_none, run_more}
+use Rattle.transfer.proofs.Running.{after_more, answers_more, run_more}
 use Rattle.transfer.proofs.steps.run.Goals as goal
 
 pub loop-i-preserved : goal.loop-i-preserved
