@@ -35,6 +35,6 @@ module _ (m : List ℕ) (p c : ℕ) (before : List ℕ) (fits : (k : ℕ) → ge
     lost = λ none.
         let known : d ≡ denied Lost Code 0 0 = let e = (mended.lost (gathered_length m p c) all none).1 in cc in
         (refl, at ∙ ap (λ x. Err (denied x.reason x.layer p c)) known);
-    gives = λ v near. let e = (mended.mends all v near).1.1 in let z : ◌≡◌ {A = ℕ} 0 1 = cc in absurd (omega arith);
-    sound = λ j is. let z : ◌≡◌ {A = ℕ} 0 1 = cc in absurd (omega arith);
+    gives = λ v near. let e = (mended.mends all v near).1.1 in cc;
+    sound = λ j is. cc;
   }

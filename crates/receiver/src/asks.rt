@@ -1,6 +1,6 @@
 //! Answering for blocks.
 ghost use Rattle.std.specs.Prelude.{◌≡◌, ◌≤◌, length, IfOk, MatchResult};
-ghost use Rattle.receiver.specs.Asks.{ask_refusal, Asked, by_missing, checked, Given, missing_line, untaken};
+ghost use Rattle.receiver.specs.Asks.{ask_refusal, Asked, by_missing, checked, Given, lines_at, missing_line, untaken};
 ghost use Rattle.receiver.specs.Memory.{gathered};
 
 use crate::memory::{MARKS, MEMORY};
@@ -23,14 +23,23 @@ fn check_line(memory: &[u8; MEMORY], line: usize) -> Result<(), Denial>
     Ok(())
 }
 
+// A block's first line, and its second where it has one.
+fn lines_of(name: BlockName) -> Result<(usize, Option<usize>), Denial>
+    ensures { result ≡ lines_at name.packet name.channel }
+{
+    let (first, _) = place_of(name.packet(), name.channel(), 0)?;
+    let second = second_line(name.packet(), name.channel())?;
+    Ok((first, second))
+}
+
 // Whether every line of a block was taken.
 fn check_lines(memory: &[u8; MEMORY], name: BlockName) -> Result<(), Denial>
     ensures { result ≡ checked (by_missing (missing_line memory.now name.packet name.channel)) }
 {
-    let (first, _) = place_of(name.packet(), name.channel(), 0)?;
+    let (first, second) = lines_of(name)?;
     check_line(memory, first)?;
-    match second_line(name.packet(), name.channel())? {
-        Some(second) => check_line(memory, second),
+    match second {
+        Some(line) => check_line(memory, line),
         None => Ok(()),
     }
 }
