@@ -1,9 +1,5 @@
 //! The bytes that a receiver works in.
-
-// How many lines a field has, and how many bytes of the stream stand on each.
-pub(crate) const LINES: usize = 212;
-
-pub(crate) const LINE: usize = 1436;
+use layout::{LINE, LINES};
 
 // Where the marks begin: behind the bytes of all lines.
 pub(crate) const MARKS: usize = LINES * LINE;

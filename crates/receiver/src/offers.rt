@@ -3,10 +3,10 @@ ghost use Rattle.std.specs.Prelude.{◌≡◌, ℕ, ◌≤◌, length, slice_ind
 ghost use Rattle.receiver.specs.Offers.{FaultsFound, offer_at, Offered, taken_byte};
 
 use crate::lines::HeldLine;
-use crate::memory::{LINE, LINES, MARKS, MEMORY};
+use crate::memory::{MARKS, MEMORY};
 use carriers::Carrier;
 use denial::{Denial, Layer, Reason};
-use layout::{received_byte, whole};
+use layout::{LINE, LINES, received_byte, whole};
 
 // The line that is offered, where it may be taken.
 fn check_offer<'c, C: Carrier>(
