@@ -29,7 +29,7 @@ fn check_offer<'c, C: Carrier>(
     Ok(held)
 }
 
-// Writes a line's bytes and its mark.
+// Writes a line's bytes and its mark. A slice: what it holds at last is not known of memory lent on as an array by `try_from`.
 fn take_line<C: Carrier>(memory: &mut [u8], held: &HeldLine<C>)
     requires memory { length memory.old ≡ 304644 }
     requires line { held.now.line ≤ 211 }

@@ -131,20 +131,19 @@ after_more c steps i o d e h is next =
     next ∙ ap (λ f. after_steps f (x ∷ [])) is ∙ sym (after_push c (take i steps) x) ∙ ap (after_steps c) (sym (take_more steps i o h))
 
 -- The first i answers are noted in `answers`, where `was` stood.
-abbrev Noted : Meaning → List Step → List ℕ → ℕ → List Answer → List Answer → Type 0
-Noted c steps m i was answers =
-    (length answers ≡ length was)
-    × ((k : ℕ) → k < i → k < length answers → AnsweredIn c (take k steps) m (get_or steps k (Offer 0)) (get_or answers k (Ok tt)))
-    × ((k : ℕ) → i ≤ k → get_or answers k (Ok tt) ≡ get_or was k (Ok tt))
+pub record Noted (c : Meaning) (steps : List Step) (m : List ℕ) (i : ℕ) (was answers : List Answer) : Type 0 where
+  pub size : length answers ≡ length was
+  pub each : (k : ℕ) → k < i → k < length answers → AnsweredIn c (take k steps) m (get_or steps k (Offer 0)) (get_or answers k (Ok tt))
+  pub others : (k : ℕ) → i ≤ k → get_or answers k (Ok tt) ≡ get_or was k (Ok tt)
 
 -- And one more.
 pub answers_more : (c : Meaning) (steps : List Step) (i : ℕ) (o : Step) (m m' : List ℕ) (d : Meaning) (r : Answer) (was answers new : List Answer) →
     i < length steps → d ≡ after_steps c (take i steps) → Ran c (take i steps) m m' → r ≡ step_at m' d (get_or steps i o) →
     new ≡ set answers i r → Noted c steps m i was answers → Noted c steps m (i + 1) was new
 answers_more c steps i o m m' d r was answers new h is ran answer e noted =
-    subst (Noted c steps m (i + 1) was) (sym e) (
-      length-set answers i r ∙ noted.0,
-      (λ k l inside. elim (ℕ_discrete k i) [
+    subst (Noted c steps m (i + 1) was) (sym e) (record {
+      size = length-set answers i r ∙ noted.size;
+      each = λ k l inside. elim (ℕ_discrete k i) [
         | yes same ↦ subst (λ j. AnsweredIn c (take j steps) m (get_or steps j (Offer 0)) (get_or (set answers i r) j (Ok tt))) (sym same)
             (subst (AnsweredIn c (take i steps) m (get_or steps i (Offer 0))) (sym (get_or-set_same answers i r (Ok tt) (omega (arith, length-set answers i r))))
             (record {
@@ -153,7 +152,7 @@ answers_more c steps i o m m' d r was answers new h is ran answer e noted =
               answer = answer ∙ ap (λ f. step_at m' f (get_or steps i o)) is ∙ ap (step_at m' (after_steps c (take i steps))) (get_or_default steps i o (Offer 0) h);
             }))
         | no ne ↦ subst (AnsweredIn c (take k steps) m (get_or steps k (Offer 0))) (sym (get_or-set_other answers i k r (Ok tt) ne))
-            (noted.1 k (omega arith) (omega (arith, length-set answers i r)))
-      ]),
-      (λ k l. get_or-set_other answers i k r (Ok tt) (λ z. omega arith) ∙ noted.2 k (omega arith)),
-    )
+            (noted.each k (omega arith) (omega (arith, length-set answers i r)))
+      ];
+      others = λ k l. get_or-set_other answers i k r (Ok tt) (λ z. omega arith) ∙ noted.others k (omega arith);
+    })
