@@ -10,5 +10,5 @@ invariant-loop-i g l = record {
   beside : g.C.WritableCarrier.rest l.carrier ≡ g.C.WritableCarrier.rest l.initial.carrier;
   memory : Ran (g.C.Carrier.meaning l.initial.carrier) (take l.i l.steps) l.initial.receiver.memory.now l.receiver.memory.now;
   same : l.receiver.memory.ghost_name ≡ l.initial.receiver.memory.ghost_name;
-  noted : Noted (g.C.Carrier.meaning l.initial.carrier) l.steps l.initial.receiver.memory.now l.i l.initial.answers l.answers
+  noted : Noted (g.C.Carrier.meaning l.initial.carrier) l.steps l.initial.receiver.memory.now l.i l.initial.answers l.answers;
 }
