@@ -7,10 +7,7 @@ use crate::memory::{MARKS, MEMORY};
 use codec::MendRecord;
 use codewords::{BLOCK, mend_block};
 use denial::{Denial, Layer, Reason};
-use layout::{BlockName, place_of, second_line, whole};
-
-// Bytes to a basic block.
-const BASIC: usize = 219;
+use layout::{BASIC, BlockName, place_of, second_line, whole};
 
 // Whether a line was taken.
 fn check_line(memory: &[u8; MEMORY], line: usize) -> Result<(), Denial>
