@@ -1,16 +1,13 @@
 -- From the contracts of the single calls to the promise.
-use Rattle.std.proofs.Common.{◌≡◌, ℕ, List, [], ◌∷◌, Result, refl, ap, ◌∙◌, subst}
+use Rattle.std.proofs.Common.{◌≡◌, ℕ, List, [], ◌∷◌, refl, ap, ◌∙◌, subst}
 use Rattle.carriers.specs.Meaning.{Meaning, write_at, written}
-use Rattle.denial.specs.declared.Denial.{Denial}
 use Rattle.receiver.specs.Memory.{begun}
 use Rattle.receiver.specs.Offers.{offer_at, Offered}
 use Rattle.transfer.proofs.Gathers.{gathered}
 use Rattle.transfer.proofs.Running.{ran_more, ran_none}
+use Rattle.transfer.specs.Answers.{Answer}
 use Rattle.transfer.specs.Runs.{Gathered, Ran}
 use Rattle.transfer.specs.declared.steps.Step.TheVariants.{Offer, Write}
-
-abbrev Answer : Type 0
-Answer = Result (Unit {0}) Denial
 
 -- One word written and two lines offered, from the beginning on.
 pub three_steps : (mapped after : Meaning) (l w v a b : ℕ) (m m₀ m₁ m₂ : List ℕ) (r s : Answer) → after ≡ written mapped l w v → m₀ ≡ begun m →

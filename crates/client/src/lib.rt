@@ -11,6 +11,7 @@ use denial::Denial;
 use receiver::Gathering;
 use sender::Sender;
 
+// Numbers and no list of steps: this client writes once and offers twice.
 /// Where a word is written between mapping and offering, and which lines are offered.
 #[derive(Clone, Copy)]
 pub struct Plan {

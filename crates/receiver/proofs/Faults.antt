@@ -20,7 +20,7 @@ sound_by None word n none e =
       type_word = head.0;
       mark = head.1;
     }
-sound_by (Some w) word n none e = let z : ◌≡◌ {A = ℕ} 0 1 = cc in absurd (omega arith)
+sound_by (Some w) word n none e = cc
 
 pub faults_found : FaultsFound
 faults_found = λ word n. (

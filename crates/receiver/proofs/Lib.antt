@@ -1,4 +1,5 @@
 pub mod Faults
 pub mod Gathers
+mod Searching
 mod Taking
 mod Giving

@@ -11,10 +11,14 @@ use Rattle.galois.specs.Fields.{gf256}
 use Rattle.layout.specs.Places.{byte_line, is_block, no_such, second}
 use Rattle.receiver.specs.Memory.{fits, gathered, is_free, unfit}
 
+-- The line, where it was not taken.
+abbrev pub untaken : List ℕ → ℕ → Option ℕ
+untaken m line = cond (is_free m line) (Some line) None
+
 -- The second line, where there is one and it was not taken.
 abbrev pub free_second : List ℕ → Option ℕ → Option ℕ
 free_second m None = None
-free_second m (Some line) = cond (is_free m line) (Some line) None
+free_second m (Some line) = untaken m line
 
 -- The first of two lines, or of one, that was not taken.
 abbrev pub first_free : List ℕ → ℕ → Option ℕ → Option ℕ

@@ -8,6 +8,7 @@ use Rattle.denial.specs.declared.Layer.TheVariants.{Field, Line}
 use Rattle.layout.specs.First.{first_below}
 use Rattle.layout.specs.Mapped.{mark_word}
 use Rattle.layout.specs.Words.{received_byte}
+use Rattle.receiver.specs.Asks.{checked}
 use Rattle.receiver.specs.Memory.{fits, is_free, unfit}
 
 -- The words of line n are sound: none is above 1023, and the first two are those of a line of data.
@@ -38,8 +39,7 @@ abbrev pub FaultsFound : Type 0
 FaultsFound = (word : ℕ → ℕ) (n : ℕ) → (fault word n ≡ None) ↔ Sound word n
 
 abbrev pub by_fault : Option Denial → Result (Unit {0}) Denial
-by_fault None = Ok tt
-by_fault (Some d) = Err d
+by_fault = checked
 
 -- What an offer of a carrier's line n answers.
 abbrev pub offer_at : List ℕ → Meaning → ℕ → Result (Unit {0}) Denial

@@ -1,47 +1,46 @@
 //! Taking a line, or refusing it.
-ghost use Rattle.std.specs.Prelude.{◌≡◌, ℕ, ◌≤◌, true, length, slice_index};
-ghost use Rattle.carriers.specs.Meaning.{has};
+ghost use Rattle.std.specs.Prelude.{◌≡◌, ℕ, ◌≤◌, length, slice_index, IfOk, MatchResult};
 ghost use Rattle.receiver.specs.Offers.{FaultsFound, offer_at, Offered, taken_byte};
 
-use crate::lines::{line_fault, word_of};
-use crate::memory::{LINE, LINES, MARKS, MEMORY};
+use crate::lines::HeldLine;
+use crate::memory::{MARKS, MEMORY};
 use carriers::Carrier;
 use denial::{Denial, Layer, Reason};
-use layout::received_byte;
+use layout::{LINE, LINES, received_byte, whole};
 
-// Whether a line may be taken.
-fn check_offer<C: Carrier>(memory: &[u8], carrier: &C, line: usize) -> Result<(), Denial>
-    ensures { result ≡ offer_at memory.now (C.meaning carrier.now) line }
+// The line that is offered, where it may be taken.
+fn check_offer<'c, C: Carrier>(
+    memory: &[u8; MEMORY],
+    carrier: &'c C,
+    line: usize,
+) -> Result<HeldLine<'c, C>, Denial>
+    ensures answer { MatchResult result (λ _. offer_at memory.now (C.meaning carrier.now) line ≡ Ok tt) (λ denial. offer_at memory.now (C.meaning carrier.now) line ≡ Err denial) }
+    ensures held { IfOk result (λ held. (held.carrier.now ≡ carrier.now) × (held.line ≡ line)) }
+    ensures low { IfOk result (λ _. line ≤ 211) }
 {
-    if memory.len() != MEMORY {
-        return Err(Denial::new(Reason::Memory, Layer::Field, memory.len(), 0));
-    }
     if line >= LINES {
         return Err(Denial::new(Reason::Off, Layer::Field, line, 0));
     }
     if memory[MARKS + line] != 0 {
         return Err(Denial::new(Reason::Held, Layer::Field, line, 0));
     }
-    carrier.read(line, 0)?;
-    match line_fault(carrier, line) {
-        Some(denial) => Err(denial),
-        None => Ok(()),
-    }
+    let held = HeldLine::find(carrier, line)?;
+    held.check()?;
+    Ok(held)
 }
 
-// Writes a line's bytes and its mark.
-fn take_line<C: Carrier>(memory: &mut [u8], carrier: &C, line: usize)
+// Writes a line's bytes and its mark. A slice: what it holds at last is not known of memory lent on as an array by `try_from`.
+fn take_line<C: Carrier>(memory: &mut [u8], held: &HeldLine<C>)
     requires memory { length memory.old ≡ 304644 }
-    requires line { line ≤ 211 }
-    requires has { has (C.meaning carrier.now) line 0 ≡ true }
+    requires line { held.now.line ≤ 211 }
     ensures size { length memory.new ≡ length memory.old }
-    ensures bytes { (i : ℕ) → slice_index memory.new i ≡ taken_byte memory.old ((C.meaning carrier.now).word line) line i }
+    ensures bytes { (i : ℕ) → slice_index memory.new i ≡ taken_byte memory.old ((C.meaning held.now.carrier.now).word held.now.line) held.now.line i }
 {
-    let start = LINE * line;
-    for j in 0..LINE {
-        memory[start + j] = received_byte(word_of(carrier, line, 2 + j));
+    let start = LINE * held.line;
+    for (j, byte) in memory[start..start + LINE].iter_mut().enumerate() {
+        *byte = received_byte(held.word(2 + j));
     }
-    memory[MARKS + line] = 1;
+    memory[MARKS + held.line] = 1;
 }
 
 // Takes a line, where it may be taken.
@@ -53,8 +52,8 @@ pub(crate) fn offer_into<C: Carrier>(
     ensures answer { result ≡ offer_at memory.old (C.meaning carrier.now) line }
     ensures after { Offered memory.old ((C.meaning carrier.now).word line) line memory.new result }
 {
-    check_offer(memory, carrier, line)?;
-    take_line(memory, carrier, line);
+    let held = check_offer(whole::<MEMORY>(memory)?, carrier, line)?;
+    take_line(memory, &held);
     Ok(())
 }
 

@@ -5,11 +5,12 @@ ghost use Rattle.receiver.specs.Memory.{begun};
 ghost use Rattle.receiver.specs.Offers.{offer_at, Offered};
 
 use crate::asks::ask_of;
-use crate::memory::clear_marks;
+use crate::memory::{MARKS, MEMORY};
 use crate::offers::offer_into;
 use carriers::Carrier;
 use codec::MendRecord;
 use denial::Denial;
+use layout::clear_marks;
 
 /// A receiver that takes lines. It works in 304,644 lent bytes; in memory of another length every offer is refused with `memory`.
 #[derive(Drop)]
@@ -17,6 +18,7 @@ pub struct Gathering<'m> {
     memory: &'m mut [u8],
 }
 
+// A type of its own, so that an offer to a closed receiver and a question to one that still gathers do not compile.
 /// A receiver that takes no more lines and answers for blocks.
 #[derive(Drop)]
 pub struct Closed<'m> {
@@ -29,7 +31,7 @@ impl<'m> Gathering<'m> {
         ensures bytes { result.memory.now ≡ begun memory.old }
         ensures same { result.memory.ghost_name ≡ memory.entry.ghost_name }
     {
-        clear_marks(memory);
+        clear_marks(memory, MEMORY, MARKS);
         Gathering { memory }
     }
 

@@ -79,10 +79,7 @@ fn given(
     let mut place = [9; 219];
     let answer = closed.ask(packet, channel, &mut place);
     assert_eq!(rt; place, [0; 219]);
-    match answer {
-        Ok(mends) => Ok(mends),
-        Err(_) => Err(Fail::new("refused")),
-    }
+    answer.map_err(|_| Fail::new("refused"))
 }
 
 // Word 17 has byte 7 of packet 0 from channel 0.

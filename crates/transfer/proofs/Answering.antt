@@ -1,10 +1,7 @@
 -- What the steps of a run from its beginning are answered.
-use Rattle.std.proofs.Common.{◌≡◌, ℕ, false, leb, List, length, Err, sym, ap, ◌∙◌, ⊎_elim, arith}
-use Rattle.std.proofs.lemmas.Bool.{eq-eqb, le-leb, lt-leb, ne_eqb}
+use Rattle.std.proofs.Common.{◌≡◌, ℕ, List, length, sym, ◌∙◌, inl, inr, arith}
+use Rattle.std.proofs.lemmas.Bool.Decides.{nat_tests}
 use Rattle.carriers.specs.Meaning.{Meaning}
-use Rattle.denial.specs.Denials.{denied}
-use Rattle.denial.specs.declared.Reason.TheVariants.{Memory}
-use Rattle.denial.specs.declared.Layer.TheVariants.{Field}
 use Rattle.receiver.specs.Memory.{begun}
 use Rattle.transfer.proofs.Gathers.{gathered}
 use Rattle.transfer.specs.Answers.{Answer, Answered, AnsweredIn, Answers, AnswersIn}
@@ -17,28 +14,12 @@ answered c before m (Write line word value) r a = a.answer
 answered c before m (Offer n) r a =
     let all = gathered c before m a.memory a.ran in
     let size = all.size in (
-      (λ ne.
-          let out = ne_eqb (length a.memory) 304644 (λ e. ne (sym size ∙ e)) in
-          a.answer ∙ rw out (ap (λ k. Err (denied Memory Field k 0)) size)),
-      (λ fit high.
-          let e = eq-eqb (length a.memory) 304644 (size ∙ fit) in
-          let h : leb n 211 ≡ false = lt-leb n 211 high in
-          a.answer ∙ rw (e, h)),
-      (λ fit low sound.
-          let e = eq-eqb (length a.memory) 304644 (size ∙ fit) in
-          let h = le-leb n 211 low in
-          let one = (all.lines fit n low).marked.1 sound in
-          let held = ne_eqb (mark_of a.memory n) 0 (λ z. omega arith) in
-          a.answer ∙ rw (e, h, held)),
+      (λ ne. let no : length a.memory ≡ 304644 → ⊥ = λ e. ne (sym size ∙ e) in a.answer ∙ grind (arith, nat_tests)),
+      (λ fit high. a.answer ∙ grind (arith, nat_tests)),
+      (λ fit low sound. let one = (all.lines fit n low).marked.1 sound in a.answer ∙ grind (arith, nat_tests)),
       (λ fit low none.
-          let e = eq-eqb (length a.memory) 304644 (size ∙ fit) in
-          let h = le-leb n 211 low in
-          let zero-mark : mark_of a.memory n ≡ 0 = ⊎_elim
-          (λ (z : mark_of a.memory n ≡ 0). z)
-          (λ (o : mark_of a.memory n ≡ 1). absurd (none ((all.lines fit n low).marked.0 o)))
-          (all.lines fit n low).binary in
-          let free = eq-eqb (mark_of a.memory n) 0 zero-mark in
-          a.answer ∙ rw (e, h, free)),
+          let line = all.lines fit n low in
+          let free : mark_of a.memory n ≡ 0 = elim line.binary [ inl z ↦ z | inr o ↦ absurd (none (line.marked.0 o)) ] in a.answer ∙ grind (arith, nat_tests)),
     )
 
 pub answers_all : (c : Meaning) (steps : List Step) (m : List ℕ) (was now : List Answer) → AnswersIn c steps (begun m) was now → Answers c steps (length m) was now

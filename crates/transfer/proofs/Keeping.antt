@@ -1,5 +1,5 @@
 -- From what a run leaves, line by line, to what is promised of a block.
-use Rattle.std.proofs.Common.{◌≡◌, ℕ, ◌+◌, ◌*◌, ◌%◌, ◌<◌, ◌≤◌, Bool, false, not, ◌&&◌, eqb, ◌⊎◌, ◌↔◌, List, [], ◌∷◌, length, get_or, take, Some, None, Ok, Err, Result, sym, refl, ap, ◌∙◌, subst, inl, inr, ⊎_elim, arith}
+use Rattle.std.proofs.Common.{◌≡◌, ℕ, ◌+◌, ◌*◌, ◌%◌, ◌<◌, ◌≤◌, Bool, false, not, ◌&&◌, eqb, ◌⊎◌, ◌↔◌, List, [], ◌∷◌, length, get_or, take, Some, None, Ok, Err, Result, sym, refl, ap, ◌∙◌, subst, inl, inr, arith}
 use Rattle.std.proofs.lemmas.List.{ext_get_or}
 use Rattle.std.proofs.lemmas.Bool.{cases_eq, eq-eqb, le-leb, ne_eqb}
 use Rattle.std.proofs.lemmas.Bool.Decides.{nat_tests}
@@ -7,7 +7,7 @@ use Rattle.carriers.specs.Meaning.{Meaning}
 use Rattle.codec.specs.Mend.{places}
 use Rattle.codec.specs.declared.record.MendRecord.{MendRecord}
 use Rattle.codewords.specs.Bytes.{CodedBytes, differing_bytes, WithinTwoBytes}
-use Rattle.denial.specs.Denials.{denied, number_of}
+use Rattle.denial.specs.Denials.{denied}
 use Rattle.denial.specs.declared.Denial.{Denial}
 use Rattle.denial.specs.declared.Reason.TheVariants.{Lost, Missing}
 use Rattle.denial.specs.declared.Layer.TheVariants.{Code, Field}
@@ -30,8 +30,7 @@ line_low p c j hp hc hj = omega arith
 
 two_lines : (p c j : ℕ) → j < 224 → (byte_line p c j ≡ byte_line p c 0) ⊎ (byte_line p c j ≡ byte_line p c 223)
 two_lines p c j h =
-    ⊎_elim (λ (e : byte_line p c j ≡ byte_line p c 0). inl e) (λ (ne : byte_line p c j ≡ byte_line p c 0 → ⊥). inr (omega arith))
-    (cases_eq (byte_line p c j) (byte_line p c 0))
+    elim (cases_eq (byte_line p c j) (byte_line p c 0)) [ inl e ↦ inl e | inr ne ↦ inr (omega arith) ]
 
 eqb_sym : (x y : ℕ) → eqb x y ≡ eqb y x
 eqb_sym x y = grind (arith, nat_tests)
@@ -78,39 +77,25 @@ module _ (mapped : Meaning) (ss : List Step) (p c : ℕ) where
         length (differing_bytes sent g) ≡ altered_on mapped ss p c (byte_line p c 0) b
     distance_one same b first =
         distance ∙ count_same (differs sent g) (test (byte_line p c 0) b) 224
-        (λ j h. sym (on_line (byte_line p c 0) b j h
-        (⊎_elim (λ (i : byte_line p c j ≡ byte_line p c 0). i) (λ (i : byte_line p c j ≡ byte_line p c 223). i ∙ same) (two_lines p c j h)) first))
+        (λ j h. let here : byte_line p c j ≡ byte_line p c 0 = elim (two_lines p c j h) [ inl i ↦ i | inr i ↦ i ∙ same ] in
+        sym (on_line (byte_line p c 0) b j h here first))
 
     distance_two : (byte_line p c 223 ≡ byte_line p c 0 → ⊥) → (b d : List Step) → FirstCopy mapped ss b (byte_line p c 0) →
         FirstCopy mapped ss d (byte_line p c 223) →
         length (differing_bytes sent g) ≡ altered_on mapped ss p c (byte_line p c 0) b + altered_on mapped ss p c (byte_line p c 223) d
     distance_two apart b d first last =
         distance ∙ count_sum (differs sent g) (test (byte_line p c 0) b) (test (byte_line p c 223) d) 224
-        (λ j h. ⊎_elim
-        (λ (i : byte_line p c j ≡ byte_line p c 0).
-        let x : bit (test (byte_line p c 0) b j) ≡ bit (differs sent g j) = ap bit (on_line (byte_line p c 0) b j h i first) in
-        let y : bit (test (byte_line p c 223) d j) ≡ 0 = ap bit (off_line (byte_line p c 223) d j (λ z. apart (sym z ∙ i))) in
-        omega arith)
-        (λ (i : byte_line p c j ≡ byte_line p c 223).
-        let x : bit (test (byte_line p c 223) d j) ≡ bit (differs sent g j) = ap bit (on_line (byte_line p c 223) d j h i last) in
-        let y : bit (test (byte_line p c 0) b j) ≡ 0 = ap bit (off_line (byte_line p c 0) b j (λ z. apart (sym i ∙ z))) in
-        omega arith)
-        (two_lines p c j h))
-
-ok_not_err : (k : MendRecord) (d : Denial) → ◌≡◌ {A = Result MendRecord Denial} (Ok k) (Err d) → ⊥
-ok_not_err k d e = let z : ◌≡◌ {A = ℕ} 0 1 = cc in omega arith
-
-err_same : (d e : Denial) → ◌≡◌ {A = Result MendRecord Denial} (Err d) (Err e) → d ≡ e
-err_same d e same = cc
-
-ok_same : (j k : MendRecord) → ◌≡◌ {A = Result MendRecord Denial} (Ok j) (Ok k) → j ≡ k
-ok_same j k same = cc
+        (λ j h. elim (two_lines p c j h) [
+          | inl i ↦
+              let x : bit (test (byte_line p c 0) b j) ≡ bit (differs sent g j) = ap bit (on_line (byte_line p c 0) b j h i first) in
+              let y : bit (test (byte_line p c 223) d j) ≡ 0 = ap bit (off_line (byte_line p c 223) d j (λ z. apart (sym z ∙ i))) in omega arith
+          | inr i ↦
+              let x : bit (test (byte_line p c 223) d j) ≡ bit (differs sent g j) = ap bit (on_line (byte_line p c 223) d j h i last) in
+              let y : bit (test (byte_line p c 0) b j) ≡ 0 = ap bit (off_line (byte_line p c 0) b j (λ z. apart (sym i ∙ z))) in omega arith
+        ])
 
 missing_same : (n k : ℕ) → ◌≡◌ {A = Result MendRecord Denial} (Err (denied Missing Field n 0)) (Err (denied Missing Field k 0)) → n ≡ k
-missing_same n k e = ap (λ d. d.place.0) (err_same _ _ e)
-
-missing_not_lost : (n p c : ℕ) → ◌≡◌ {A = Result MendRecord Denial} (Err (denied Missing Field n 0)) (Err (denied Lost Code p c)) → ⊥
-missing_not_lost n p c e = let z : ◌≡◌ {A = ℕ} 13 14 = ap (λ d. number_of d.reason) (err_same _ _ e) in omega arith
+missing_same n k e = let d : denied Missing Field n 0 ≡ denied Missing Field k 0 = cc in ap (λ x. x.place.0) d
 
 module _ (mapped : Meaning) (ss : List Step) (m m' : List ℕ) (size : length m ≡ 304644) (G : Gathered mapped ss m m') where
   line : (n : ℕ) → n ≤ 211 → GatheredLine mapped ss m m' n
@@ -132,13 +117,13 @@ module _ (mapped : Meaning) (ss : List Step) (m m' : List ℕ) (size : length m 
     crossed_last : Crossed p c (byte_line p c 223)
     crossed_last = (223, omega arith, refl)
 
+    never : (n : ℕ) → Crossed p c n → mark_of m' n ≡ 0 → OfferedSound mapped ss n → ⊥
+    never n x z o = let one = (line n (crossed_low n x)).marked.1 o in omega arith
+
     -- A line that is not missing is marked.
     there_marked : (IsMissing mapped ss p c → ⊥) → (n : ℕ) → Crossed p c n → mark_of m' n ≡ 1
     there_marked nm n x =
-        ⊎_elim
-        (λ (z : mark_of m' n ≡ 0). absurd (nm (n, x, λ o. let one : ◌≡◌ {A = ℕ} 1 0 = sym ((line n (crossed_low n x)).marked.1 o) ∙ z in omega arith)))
-        (λ (o : mark_of m' n ≡ 1). o)
-        (line n (crossed_low n x)).binary
+        elim (line n (crossed_low n x)).binary [ inl z ↦ absurd (nm (n, x, never n x z)) | inr o ↦ o ]
 
     offered : (n : ℕ) → Crossed p c n → mark_of m' n ≡ 1 → OfferedSound mapped ss n
     offered n x o = (line n (crossed_low n x)).marked.0 o
@@ -160,10 +145,10 @@ module _ (mapped : Meaning) (ss : List Step) (m m' : List ℕ) (size : length m 
         let z = byte_line p c 223 in
         let x = worst mapped ss p c a (offered a crossed_first (there_marked nm a crossed_first)) in
         let y = worst mapped ss p c z (offered z crossed_last (there_marked nm z crossed_last)) in
-        ⊎_elim
-        (λ (i : z ≡ a). let e = eq-eqb z a i in rw e (x.0 + 0, more x.1 none))
-        (λ (ne : z ≡ a → ⊥). let e = ne_eqb z a ne in rw e (x.0 + (y.0 + 0), more x.1 (more y.1 none)))
-        (cases_eq z a)
+        elim (cases_eq z a) [
+          | inl i ↦ let e = eq-eqb z a i in rw e (x.0 + 0, more x.1 none)
+          | inr ne ↦ let e = ne_eqb z a ne in rw e (x.0 + (y.0 + 0), more x.1 (more y.1 none))
+        ]
 
     -- What was gathered differs from what was sent in no more bytes than the worst copies do.
     near_enough : (sent g : List ℕ) → length sent ≡ 224 → Carries mapped p c sent → GatheredBlock mapped ss p c g →
@@ -175,21 +160,19 @@ module _ (mapped : Meaning) (ss : List Step) (m m' : List ℕ) (size : length m 
         let first-with : (n k : ℕ) → Crossed p c n → Worst mapped ss p c n k →
         (b : List Step) × FirstCopy mapped ss b n × (altered_on mapped ss p c n b ≤ k) = λ n k x w.
         let o = first_of n (crossed_low n x) (w.reached.0, w.reached.1) in (o.0, o.1, w.most o.0 o.1.copy) in
-        ⊎_elim
-        (λ (i : z ≡ a).
-        let e = eq-eqb z a i in
-        let q : Parts mapped ss p c (a ∷ []) t = rw e at all in
-        let u = first-with a q.0 crossed_first q.2 in
-        let d = distance_one mapped ss p c sent g long carries gg i u.0 u.1 in
-        omega (arith, d, u.2, q.4))
-        (λ (ne : z ≡ a → ⊥).
-        let e = ne_eqb z a ne in
-        let q : Parts mapped ss p c (a ∷ z ∷ []) t = rw e at all in
-        let u = first-with a q.0 crossed_first q.2 in
-        let v = first-with z q.3.0 crossed_last q.3.2 in
-        let d = distance_two mapped ss p c sent g long carries gg ne u.0 v.0 u.1 v.1 in
-        omega (arith, d, u.2, v.2, q.4, q.3.4))
-        (cases_eq z a)
+        elim (cases_eq z a) [
+          | inl i ↦
+              let e = eq-eqb z a i in
+              let q : Parts mapped ss p c (a ∷ []) t = rw e at all in
+              let u = first-with a q.0 crossed_first q.2 in
+              let d = distance_one mapped ss p c sent g long carries gg i u.0 u.1 in omega (arith, d, u.2, q.4)
+          | inr ne ↦
+              let e = ne_eqb z a ne in
+              let q : Parts mapped ss p c (a ∷ z ∷ []) t = rw e at all in
+              let u = first-with a q.0 crossed_first q.2 in
+              let v = first-with z q.3.0 crossed_last q.3.2 in
+              let d = distance_two mapped ss p c sent g long carries gg ne u.0 v.0 u.1 v.1 in omega (arith, d, u.2, v.2, q.4, q.3.4)
+        ]
 
     before_first : (k : ℕ) → Crossed p c k → k < byte_line p c 0 → ⊥
     before_first k x l = let j = x.0 in let i : byte_line p c j ≡ k = x.2 in omega arith
@@ -198,10 +181,7 @@ module _ (mapped : Meaning) (ss : List Step) (m m' : List ℕ) (size : length m 
     before_last ma k x l =
         let j = x.0 in
         let i : byte_line p c j ≡ k = x.2 in
-        ⊎_elim
-        (λ (q : byte_line p c j ≡ byte_line p c 0). subst (λ n. mark_of m' n ≡ 1) (sym q ∙ i) ma)
-        (λ (q : byte_line p c j ≡ byte_line p c 223). absurd (omega arith))
-        (two_lines p c j x.1)
+        elim (two_lines p c j x.1) [ inl q ↦ subst (λ n. mark_of m' n ≡ 1) (sym q ∙ i) ma | inr q ↦ absurd (omega arith) ]
 
     -- What asking comes to: a line is told missing, or the gathered bytes are answered for.
     data Told (before after : List ℕ) (r : Result MendRecord Denial) : Type 0 where
@@ -219,42 +199,34 @@ module _ (mapped : Meaning) (ss : List Step) (m m' : List ℕ) (size : length m 
           rw (a, b, d, e)
 
       told : Told before after r
-      told = ⊎_elim
-          (λ (na : mark_of m' (byte_line p c 0) ≡ 0).
-          let e = eq-eqb (mark_of m' (byte_line p c 0)) 0 na in
-          let is : ask_refusal m' p c before ≡ Some (denied Missing Field (byte_line p c 0) 0) = refusal ∙ rw e in
-          absent (byte_line p c 0) (asked.refuses _ is).1 crossed_first na (λ k x l. absurd (before_first k x l)))
-          (λ (ma : mark_of m' (byte_line p c 0) ≡ 1).
-          let e = ne_eqb (mark_of m' (byte_line p c 0)) 0 (λ z. omega arith) in
-          ⊎_elim
-          (λ (i : byte_line p c 223 ≡ byte_line p c 0).
-          let f = eq-eqb (byte_line p c 223) (byte_line p c 0) i in
-          let is : ask_refusal m' p c before ≡ None = refusal ∙ rw (e, f) in
-          all_there ma (subst (λ n. mark_of m' n ≡ 1) (sym i) ma) (asked.answers is))
-          (λ (ne : byte_line p c 223 ≡ byte_line p c 0 → ⊥).
-          let f = ne_eqb (byte_line p c 223) (byte_line p c 0) ne in
-          ⊎_elim
-          (λ (nz : mark_of m' (byte_line p c 223) ≡ 0).
-          let h = eq-eqb (mark_of m' (byte_line p c 223)) 0 nz in
-          let is : ask_refusal m' p c before ≡ Some (denied Missing Field (byte_line p c 223) 0) = refusal ∙ rw (e, f, h) in
-          absent (byte_line p c 223) (asked.refuses _ is).1 crossed_last nz (before_last ma))
-          (λ (mz : mark_of m' (byte_line p c 223) ≡ 1).
-          let h = ne_eqb (mark_of m' (byte_line p c 223)) 0 (λ z. omega arith) in
-          let is : ask_refusal m' p c before ≡ None = refusal ∙ rw (e, f, h) in
-          all_there ma mz (asked.answers is))
-          (line (byte_line p c 223) (low 223 (omega arith))).binary)
-          (cases_eq (byte_line p c 223) (byte_line p c 0)))
-          (line (byte_line p c 0) (low 0 (omega arith))).binary
-
-    never : (n : ℕ) → Crossed p c n → mark_of m' n ≡ 0 → OfferedSound mapped ss n → ⊥
-    never n x z o = let one : ◌≡◌ {A = ℕ} 1 0 = sym ((line n (crossed_low n x)).marked.1 o) ∙ z in omega arith
+      told =
+          let a = byte_line p c 0 in
+          let z = byte_line p c 223 in
+          elim (line a (low 0 (omega arith))).binary [
+            | inl na ↦
+                let is : ask_refusal m' p c before ≡ Some (denied Missing Field a 0) = refusal ∙ grind (arith, nat_tests) in
+                absent a (asked.refuses _ is).1 crossed_first na (λ k x l. absurd (before_first k x l))
+            | inr ma ↦ elim (cases_eq z a) [
+              | inl i ↦
+                  let is : ask_refusal m' p c before ≡ None = refusal ∙ grind (arith, nat_tests) in
+                  all_there ma (subst (λ n. mark_of m' n ≡ 1) (sym i) ma) (asked.answers is)
+              | inr ne ↦ elim (line z (low 223 (omega arith))).binary [
+                | inl nz ↦
+                    let is : ask_refusal m' p c before ≡ Some (denied Missing Field z 0) = refusal ∙ grind (arith, nat_tests) in
+                    absent z (asked.refuses _ is).1 crossed_last nz (before_last ma)
+                | inr mz ↦
+                    let is : ask_refusal m' p c before ≡ None = refusal ∙ grind (arith, nat_tests) in
+                    all_there ma mz (asked.answers is)
+              ]
+            ]
+          ]
 
     all_marked : mark_of m' (byte_line p c 0) ≡ 1 → mark_of m' (byte_line p c 223) ≡ 1 → (n : ℕ) → Crossed p c n → mark_of m' n ≡ 1
     all_marked ma mz n x =
-        ⊎_elim
-        (λ (i : byte_line p c x.0 ≡ byte_line p c 0). subst (λ k. mark_of m' k ≡ 1) (sym i ∙ x.2) ma)
-        (λ (i : byte_line p c x.0 ≡ byte_line p c 223). subst (λ k. mark_of m' k ≡ 1) (sym i ∙ x.2) mz)
-        (two_lines p c x.0 x.1)
+        elim (two_lines p c x.0 x.1) [
+          | inl i ↦ subst (λ k. mark_of m' k ≡ 1) (sym i ∙ x.2) ma
+          | inr i ↦ subst (λ k. mark_of m' k ≡ 1) (sym i ∙ x.2) mz
+        ]
 
     -- The gathered bytes are those that the receiver has.
     same_block : (IsMissing mapped ss p c → ⊥) → (g : List ℕ) → GatheredBlock mapped ss p c g → g ≡ gathered m' p c
@@ -268,10 +240,13 @@ module _ (mapped : Meaning) (ss : List Step) (m m' : List ℕ) (size : length m 
 
     module _ (before after : List ℕ) (r : Result MendRecord Denial) where
       no_near : (d : Denial) → r ≡ Err d → Given (gathered m' p c) p c before after r → (v : List ℕ) → WithinTwoBytes gf256 224 (gathered m' p c) v → ⊥
-      no_near d e given v near = let o = (given.gives v near).1 in ok_not_err o.0 d (sym o.1 ∙ e)
+      no_near d e given v near = let o = (given.gives v near).1.1 in cc
 
       not_missing : Given (gathered m' p c) p c before after r → (n : ℕ) → r ≡ Err (denied Missing Field n 0) → ⊥
-      not_missing given n e = missing_not_lost n p c (sym e ∙ (given.lost (no_near _ e given)).1)
+      not_missing given n e =
+          let lost = (given.lost (no_near _ e given)).1 in
+          let d : denied Missing Field n 0 ≡ denied Lost Code p c = cc in
+          let reason : Missing ≡ Lost = ap (λ x. x.reason) d in cc
 
       lost_or_given : Given (gathered m' p c) p c before after r → (q : Result MendRecord Denial) → r ≡ q →
           (r ≡ Err (denied Lost Code p c)) ⊎ ((k : MendRecord) × (r ≡ Ok k))
@@ -298,7 +273,7 @@ module _ (mapped : Meaning) (ss : List Step) (m m' : List ℕ) (size : length m 
       answered (all_there ma mz given) nm = given
 
       not_missing_given : Told before after r → (k : MendRecord) → r ≡ Ok k → IsMissing mapped ss p c → ⊥
-      not_missing_given t k e miss = let o = missing_told t miss in ok_not_err k _ (sym e ∙ o.1)
+      not_missing_given t k e miss = let told = (missing_told t miss).1 in cc
 
       pub promise : (loaded sent : List ℕ) → length sent ≡ 224 → take 219 sent ≡ loaded → CodedBytes gf256 224 sent → Carries mapped p c sent →
           length before ≡ 219 → Asked m' p c before after r → Promise mapped ss p c loaded sent after r
@@ -320,7 +295,7 @@ module _ (mapped : Meaning) (ss : List Step) (m m' : List ℕ) (size : length m 
                 let given = answered t nm in
                 let s = given.sound k e in
                 let o = given.gives s.0 s.1 in
-                let same : o.1.0 ≡ k = ok_same o.1.0 k (sym o.1.1 ∙ e) in
+                let same : o.1.0 ≡ k = let is = o.1.1 in cc in
                 subst (λ b. (v : List ℕ) × (after ≡ take 219 v) × WithinTwoBytes gf256 224 b v × ((u : List ℕ) → WithinTwoBytes gf256 224 b u → u ≡ v) × (places k ≡ differing_bytes v b))
                 (sym (same_block nm g gg)) (s.0, o.0, s.1, s.2, ap places (sym same) ∙ o.1.2);
             as_sent = λ nm sum worsts few g gg.

@@ -1,14 +1,11 @@
 -- Lists of steps, cut in two.
-use Rattle.std.proofs.Common.{◌≡◌, ◌+◌, ◌⊎◌, List, [], ◌∷◌, ◌++◌, length, refl, ap, inl, inr, ⊎_elim, arith}
-use Rattle.std.proofs.lemmas.List.{length-append}
+use Rattle.std.proofs.Common.{◌≡◌, ◌⊎◌, List, [], ◌∷◌, ◌++◌, refl, ap, inl, inr}
 use Rattle.transfer.specs.declared.steps.Step.{Step}
 
 -- No list with an element is empty.
 pub not_empty : (b a : List Step) (y : Step) → [] ≡ b ++ y ∷ a → ⊥
-not_empty b a y e =
-    let n : length {A = Step} [] ≡ length (b ++ y ∷ a) = ap length e in
-    let k : length (b ++ y ∷ a) ≡ length b + length (y ∷ a) = length-append b (y ∷ a) in
-    omega arith
+not_empty [] a y e = cc
+not_empty (z ∷ b) a y e = cc
 
 -- A list that ends in x, cut at y: y is the end, or stands before it.
 pub cut_end : (ss b a : List Step) (x y : Step) → ss ++ x ∷ [] ≡ b ++ y ∷ a → ((b ≡ ss) × (y ≡ x)) ⊎ ((a : List Step) × (ss ≡ b ++ y ∷ a))
@@ -18,10 +15,10 @@ cut_end (s ∷ ss) [] a x y e = let h : s ≡ y = cc in inr (ss, ap (λ t. t ∷
 cut_end (s ∷ ss) (z ∷ b) a x y e =
     let h : s ≡ z = cc in
     let t : ss ++ x ∷ [] ≡ b ++ y ∷ a = cc in
-    ⊎_elim
-    (λ (p : (b ≡ ss) × (y ≡ x)). let q : z ∷ b ≡ s ∷ ss = let i = p.0 in cc in inl (q, p.1))
-    (λ (p : (a : List Step) × (ss ≡ b ++ y ∷ a)). let q : s ∷ ss ≡ z ∷ (b ++ y ∷ p.0) = let i = p.1 in cc in inr (p.0, q))
-    (cut_end ss b a x y t)
+    elim (cut_end ss b a x y t) [
+      | inl p ↦ let i = p.0 in let q : z ∷ b ≡ s ∷ ss = cc in inl (q, p.1)
+      | inr p ↦ let i = p.1 in let q : s ∷ ss ≡ z ∷ (b ++ y ∷ p.0) = cc in inr (p.0, q)
+    ]
 
 -- A list cut twice: at one place, or at one before the other.
 pub cut_twice : (b b' r r' : List Step) (y y' : Step) → b ++ y ∷ r ≡ b' ++ y' ∷ r' →
@@ -32,10 +29,8 @@ cut_twice (z ∷ b) [] r r' y y' e = let h : z ≡ y' = cc in inr (inr (b, ap (�
 cut_twice (z ∷ b) (z' ∷ b') r r' y y' e =
     let h : z ≡ z' = cc in
     let t : b ++ y ∷ r ≡ b' ++ y' ∷ r' = cc in
-    ⊎_elim
-    (λ (p : b ≡ b'). let q : z ∷ b ≡ z' ∷ b' = cc in inl q)
-    (λ (s : ((a : List Step) × (b' ≡ b ++ y ∷ a)) ⊎ ((a : List Step) × (b ≡ b' ++ y' ∷ a))). inr (⊎_elim
-    (λ (p : (a : List Step) × (b' ≡ b ++ y ∷ a)). let i = p.1 in let q : z' ∷ b' ≡ z ∷ (b ++ y ∷ p.0) = cc in inl (p.0, q))
-    (λ (p : (a : List Step) × (b ≡ b' ++ y' ∷ a)). let i = p.1 in let q : z ∷ b ≡ z' ∷ (b' ++ y' ∷ p.0) = cc in inr (p.0, q))
-    s))
-    (cut_twice b b' r r' y y' t)
+    elim (cut_twice b b' r r' y y' t) [
+      | inl p ↦ let q : z ∷ b ≡ z' ∷ b' = cc in inl q
+      | inr (inl p) ↦ let i = p.1 in let q : z' ∷ b' ≡ z ∷ (b ++ y ∷ p.0) = cc in inr (inl (p.0, q))
+      | inr (inr p) ↦ let i = p.1 in let q : z ∷ b ≡ z' ∷ (b' ++ y' ∷ p.0) = cc in inr (inr (p.0, q))
+    ]

@@ -1,5 +1,5 @@
 -- What one offer makes of each line.
-use Rattle.std.proofs.Common.{◌≡◌, ℕ, ◌+◌, ◌-◌, ◌*◌, ◌<◌, ◌≤◌, true, false, ◌&&◌, eqb, ltb, leb, ◌⊎◌, List, length, get_or, Some, None, Ok, Err, Option, Result, sym, refl, ap, ◌∙◌, subst, inl, inr, ⊎_elim, arith}
+use Rattle.std.proofs.Common.{◌≡◌, ℕ, ◌+◌, ◌-◌, ◌*◌, ◌<◌, ◌≤◌, true, false, ◌&&◌, eqb, ltb, leb, ◌⊎◌, List, length, get_or, Some, None, Ok, Err, Option, Result, sym, refl, ap, ◌∙◌, subst, inl, inr, arith}
 use Rattle.std.proofs.lemmas.Bool.{cases_eq, cases_lt, eq-eqb, eqb-true, le-leb, leb-true}
 use Rattle.std.proofs.lemmas.Bool.Decides.{nat_tests}
 use Rattle.carriers.specs.Meaning.{has, Meaning}
@@ -11,9 +11,6 @@ use Rattle.receiver.specs.Offers.{by_fault, fault, offer_at, Offered, taken_byte
 use Rattle.transfer.specs.Runs.{Kept, line_byte, mark_of, Taken}
 use Rattle.transfer.specs.Steps.{SoundLine}
 
-not_ok : (d : Denial) → ◌≡◌ {A = Result (Unit {0}) Denial} (Err d) (Ok tt) → ⊥
-not_ok d e = let z : ◌≡◌ {A = ℕ} 0 1 = cc in omega arith
-
 -- What an accepted offer has tested.
 record Allowed (m : List ℕ) (c : Meaning) (k : ℕ) : Type 0 where
   size : length m ≡ 304644
@@ -23,7 +20,7 @@ record Allowed (m : List ℕ) (c : Meaning) (k : ℕ) : Type 0 where
 
 no_fault : (o : Option Denial) → Ok tt ≡ by_fault o → o ≡ None
 no_fault None e = refl
-no_fault (Some d) e = let z : ◌≡◌ {A = ℕ} 0 1 = cc in absurd (omega arith)
+no_fault (Some d) e = cc
 
 passes : (m : List ℕ) (c : Meaning) (k : ℕ) → fits m ≡ true → leb k 211 ≡ true → is_free m k ≡ true → has c k 0 ≡ true →
     offer_at m c k ≡ by_fault (fault (c.word k) k)
@@ -86,13 +83,14 @@ module _ (m : List ℕ) (c : Meaning) (k : ℕ) (m' : List ℕ) (size : length m
 
   line_other : (n ≡ k → ⊥) → k ≤ 211 → ((i : ℕ) → get_or m' i 0 ≡ taken_byte m (c.word k) k i) → Line m c k m' n
   line_other ne low' bytes =
-      let apart : (n < k) ⊎ (k < n) = ⊎_elim (λ (l : n < k). inl l) (λ (l : k ≤ n). inr (omega arith)) (cases_lt n k) in
+      let apart : (j : ℕ) → j < 1436 → (1436 * n + j < 1436 * k) ⊎ (1436 * k + 1436 ≤ 1436 * n + j) = λ j h.
+      elim (cases_lt n k) [ inl l ↦ inl (omega arith) | inr l ↦ inr (omega arith) ] in
       inr (
         (λ s _ _. absurd (ne s)),
         record {
           mark = bytes (304432 + n) ∙ taken_else m (c.word k) k (304432 + n) (λ q. ne (omega arith)) (inr (omega arith));
           bytes = λ j h. bytes (1436 * n + j)
-              ∙ taken_else m (c.word k) k (1436 * n + j) (λ q. omega arith) (⊎_elim (λ (x : n < k). inl (omega arith)) (λ (x : k < n). inr (omega arith)) apart);
+              ∙ taken_else m (c.word k) k (1436 * n + j) (λ q. omega arith) (apart j h);
         },
       )
 
@@ -106,8 +104,8 @@ module _ (m : List ℕ) (c : Meaning) (k : ℕ) (m' : List ℕ) (size : length m
   pub line : (r : Result (Unit {0}) Denial) → r ≡ offer_at m c k → Offered m (c.word k) k m' r → Line m c k m' n
   line (Ok _) e o =
       let a = allowed m c k e in
-      ⊎_elim (λ (s : n ≡ k). line_same s a o.1) (λ (s : n ≡ k → ⊥). line_other s a.low o.1) (cases_eq n k)
-  line (Err d) e o = line_refused (λ a. let z : Err d ≡ Ok tt = e ∙ accepted m c k a in not_ok d z) o
+      elim (cases_eq n k) [ inl s ↦ line_same s a o.1 | inr s ↦ line_other s a.low o.1 ]
+  line (Err d) e o = line_refused (λ a. let ok = accepted m c k a in cc) o
 
 -- An offer keeps the memory's length, and in unfit memory every byte.
 pub offer_size : (m : List ℕ) (word : ℕ → ℕ) (k : ℕ) (m' : List ℕ) (r : Result (Unit {0}) Denial) → Offered m word k m' r → length m' ≡ length m

@@ -1,5 +1,5 @@
 -- A run goes on by one step.
-use Rattle.std.proofs.Common.{◌≡◌, ℕ, ◌+◌, ◌<◌, ◌≤◌, ◌⊎◌, List, [], ◌∷◌, ◌++◌, length, get_or, take, set, Ok, Result, sym, refl, ap, ◌∙◌, subst, inl, inr, ⊎_elim, arith, length-set, get_or-set_other, get_or-set_same}
+use Rattle.std.proofs.Common.{◌≡◌, ℕ, ◌+◌, ◌<◌, ◌≤◌, ◌⊎◌, List, [], ◌∷◌, ◌++◌, length, get_or, take, set, Ok, Result, sym, refl, ap, ◌∙◌, subst, inl, inr, arith, length-set, get_or-set_other, get_or-set_same}
 use native.Mathlib.Decide.{ℕ_discrete}
 use Rattle.std.proofs.lemmas.List.{append_assoc, get_or_default, take_more}
 use Rattle.carriers.specs.Meaning.{Meaning, written}
@@ -18,9 +18,6 @@ after_push c [] x = refl
 after_push c (Write l w v ∷ ss) x = after_push (written c l w v) ss x
 after_push c (Offer k ∷ ss) x = after_push c ss x
 
-not_write : (n l w v : ℕ) → Offer n ≡ Write l w v → ⊥
-not_write n l w v e = let z : ◌≡◌ {A = ℕ} 0 1 = cc in omega arith
-
 module _ (c : Meaning) (ss : List Step) where
   -- A sound copy stays one, and the first stays the first.
   copy_more : (b : List Step) (n : ℕ) (x : Step) → SoundCopy c ss b n → SoundCopy c (ss ++ x ∷ []) b n
@@ -36,18 +33,18 @@ module _ (c : Meaning) (ss : List Step) where
   -- A sound copy of the longer list is made by the last step, or was one before.
   copy_less : (b : List Step) (n : ℕ) (x : Step) → SoundCopy c (ss ++ x ∷ []) b n → ((b ≡ ss) × (Offer n ≡ x)) ⊎ SoundCopy c ss b n
   copy_less b n x o =
-      ⊎_elim
-      (λ (p : (b ≡ ss) × (Offer n ≡ x)). inl p)
-      (λ (p : (a : List Step) × (ss ≡ b ++ Offer n ∷ a)). inr (record { rest = p.0; there = p.1; sound = o.sound }))
-      (cut_end ss b o.rest x (Offer n) o.there)
+      elim (cut_end ss b o.rest x (Offer n) o.there) [
+        | inl p ↦ inl p
+        | inr p ↦ inr (record { rest = p.0; there = p.1; sound = o.sound })
+      ]
 
   none_more : (n : ℕ) (x : Step) → (Offer n ≡ x → SoundLine (after_steps c ss) n → ⊥) → ((b : List Step) → SoundCopy c ss b n → ⊥) →
       (b : List Step) → SoundCopy c (ss ++ x ∷ []) b n → ⊥
   none_more n x last before b o =
-      ⊎_elim
-      (λ (p : (b ≡ ss) × (Offer n ≡ x)). last p.1 (subst (λ d. SoundLine (after_steps c d) n) p.0 o.sound))
-      (before b)
-      (copy_less b n x o)
+      elim (copy_less b n x o) [
+        | inl p ↦ last p.1 (subst (λ d. SoundLine (after_steps c d) n) p.0 o.sound)
+        | inr p ↦ before b p
+      ]
 
 kept_kept : (n : ℕ) (m m' m'' : List ℕ) → Kept n m m' → Kept n m' m'' → Kept n m m''
 kept_kept n m m' m'' p q = record { mark = q.mark ∙ p.mark; bytes = λ j h. q.bytes j h ∙ p.bytes j h }
@@ -71,45 +68,37 @@ module _ (c : Meaning) (ss : List Step) (m m' : List ℕ) (r : Ran c ss m m') wh
     size = r.size;
     unfit = r.unfit;
     held = r.held;
-    free = λ s n h z. ⊎_elim
-        (λ (p : (b : List Step) × FirstCopy c ss b n × Taken (after_steps c b) n m'). inl (p.0, first_more c ss p.0 n (Write l w v) p.1, p.2))
-        (λ (p : ((b : List Step) → SoundCopy c ss b n → ⊥) × Kept n m m').
-        inr (none_more c ss n (Write l w v) (λ e _. not_write n l w v e) p.0, p.1))
-        (r.free s n h z);
+    free = λ s n h z. elim (r.free s n h z) [
+      | inl p ↦ inl (p.0, first_more c ss p.0 n (Write l w v) p.1, p.2)
+      | inr p ↦ inr (none_more c ss n (Write l w v) (λ e _. cc) p.0, p.1)
+    ];
   }
 
   module _ (k : ℕ) (m'' : List ℕ) (each : length m ≡ 304644 → (n : ℕ) → n ≤ 211 → Line m' (after_steps c ss) k m'' n) where
     offer_held : length m ≡ 304644 → (n : ℕ) → n ≤ 211 → (mark_of m n ≡ 0 → ⊥) → Kept n m m''
     offer_held s n h set_before =
         let p = r.held s n h set_before in
-        ⊎_elim
-        (λ (t : (n ≡ k) × SoundLine (after_steps c ss) n × (mark_of m' n ≡ 0) × Taken (after_steps c ss) n m''). absurd (set_before (sym p.mark ∙ t.2)))
-        (λ (t : (n ≡ k → mark_of m' n ≡ 0 → SoundLine (after_steps c ss) n → ⊥) × Kept n m' m''). kept_kept n m m' m'' p t.1)
-        (each s n h)
+        elim (each s n h) [
+          | inl t ↦ absurd (set_before (sym p.mark ∙ t.2))
+          | inr t ↦ kept_kept n m m' m'' p t.1
+        ]
 
     offer_free : length m ≡ 304644 → (n : ℕ) → n ≤ 211 → mark_of m n ≡ 0 → Ends c (ss ++ Offer k ∷ []) m m'' n
     offer_free s n h z =
-        ⊎_elim
-        (λ (p : (b : List Step) × FirstCopy c ss b n × Taken (after_steps c b) n m'). ⊎_elim
-        (λ (t : (n ≡ k) × SoundLine (after_steps c ss) n × (mark_of m' n ≡ 0) × Taken (after_steps c ss) n m'').
-        let one : ◌≡◌ {A = ℕ} 1 0 = sym p.2.mark ∙ t.2 in absurd (omega arith))
-        (λ (t : (n ≡ k → mark_of m' n ≡ 0 → SoundLine (after_steps c ss) n → ⊥) × Kept n m' m'').
-        inl (p.0, first_more c ss p.0 n (Offer k) p.1, taken_kept (after_steps c p.0) n m' m'' p.2 t.1))
-        (each s n h))
-        (λ (p : ((b : List Step) → SoundCopy c ss b n → ⊥) × Kept n m m'). ⊎_elim
-        (λ (t : (n ≡ k) × SoundLine (after_steps c ss) n × (mark_of m' n ≡ 0) × Taken (after_steps c ss) n m'').
-        inl (
-          ss,
-          record {
-            copy = record { rest = []; there = ap (λ i. ss ++ Offer i ∷ []) (sym t.0); sound = t.1 };
-            none_before = p.0;
-          },
-          t.3,
-        ))
-        (λ (t : (n ≡ k → mark_of m' n ≡ 0 → SoundLine (after_steps c ss) n → ⊥) × Kept n m' m'').
-        inr (none_more c ss n (Offer k) (λ e g. let nk : n ≡ k = cc in t.0 nk (p.1.mark ∙ z) g) p.0, kept_kept n m m' m'' p.1 t.1))
-        (each s n h))
-        (r.free s n h z)
+        elim (r.free s n h z) [
+          | inl p ↦ elim (each s n h) [
+            | inl t ↦ absurd (omega (arith, p.2.mark, t.2))
+            | inr t ↦ inl (p.0, first_more c ss p.0 n (Offer k) p.1, taken_kept (after_steps c p.0) n m' m'' p.2 t.1)
+          ]
+          | inr p ↦ elim (each s n h) [
+            | inl t ↦
+                let there : ss ++ Offer k ∷ [] ≡ ss ++ Offer n ∷ [] = let same = t.0 in cc in
+                inl (ss, record { copy = record { rest = []; there = there; sound = t.1 }; none_before = p.0 }, t.3)
+            | inr t ↦
+                let last : Offer n ≡ Offer k → SoundLine (after_steps c ss) n → ⊥ = λ e g. let same : n ≡ k = cc in t.0 same (p.1.mark ∙ z) g in
+                inr (none_more c ss n (Offer k) last p.0, kept_kept n m m' m'' p.1 t.1)
+          ]
+        ]
 
 -- The run with one step more.
 pub ran_more : (c : Meaning) (ss : List Step) (m m' m'' : List ℕ) (x : Step) (r : Result (Unit {0}) Denial) → Ran c ss m m' →
@@ -142,20 +131,19 @@ after_more c steps i o d e h is next =
     next ∙ ap (λ f. after_steps f (x ∷ [])) is ∙ sym (after_push c (take i steps) x) ∙ ap (after_steps c) (sym (take_more steps i o h))
 
 -- The first i answers are noted in `answers`, where `was` stood.
-abbrev Noted : Meaning → List Step → List ℕ → ℕ → List Answer → List Answer → Type 0
-Noted c steps m i was answers =
-    (length answers ≡ length was)
-    × ((k : ℕ) → k < i → k < length answers → AnsweredIn c (take k steps) m (get_or steps k (Offer 0)) (get_or answers k (Ok tt)))
-    × ((k : ℕ) → i ≤ k → get_or answers k (Ok tt) ≡ get_or was k (Ok tt))
+pub record Noted (c : Meaning) (steps : List Step) (m : List ℕ) (i : ℕ) (was answers : List Answer) : Type 0 where
+  pub size : length answers ≡ length was
+  pub each : (k : ℕ) → k < i → k < length answers → AnsweredIn c (take k steps) m (get_or steps k (Offer 0)) (get_or answers k (Ok tt))
+  pub others : (k : ℕ) → i ≤ k → get_or answers k (Ok tt) ≡ get_or was k (Ok tt)
 
 -- And one more.
 pub answers_more : (c : Meaning) (steps : List Step) (i : ℕ) (o : Step) (m m' : List ℕ) (d : Meaning) (r : Answer) (was answers new : List Answer) →
     i < length steps → d ≡ after_steps c (take i steps) → Ran c (take i steps) m m' → r ≡ step_at m' d (get_or steps i o) →
     new ≡ set answers i r → Noted c steps m i was answers → Noted c steps m (i + 1) was new
 answers_more c steps i o m m' d r was answers new h is ran answer e noted =
-    subst (Noted c steps m (i + 1) was) (sym e) (
-      length-set answers i r ∙ noted.0,
-      (λ k l inside. elim (ℕ_discrete k i) [
+    subst (Noted c steps m (i + 1) was) (sym e) (record {
+      size = length-set answers i r ∙ noted.size;
+      each = λ k l inside. elim (ℕ_discrete k i) [
         | yes same ↦ subst (λ j. AnsweredIn c (take j steps) m (get_or steps j (Offer 0)) (get_or (set answers i r) j (Ok tt))) (sym same)
             (subst (AnsweredIn c (take i steps) m (get_or steps i (Offer 0))) (sym (get_or-set_same answers i r (Ok tt) (omega (arith, length-set answers i r))))
             (record {
@@ -164,7 +152,7 @@ answers_more c steps i o m m' d r was answers new h is ran answer e noted =
               answer = answer ∙ ap (λ f. step_at m' f (get_or steps i o)) is ∙ ap (step_at m' (after_steps c (take i steps))) (get_or_default steps i o (Offer 0) h);
             }))
         | no ne ↦ subst (AnsweredIn c (take k steps) m (get_or steps k (Offer 0))) (sym (get_or-set_other answers i k r (Ok tt) ne))
-            (noted.1 k (omega arith) (omega (arith, length-set answers i r)))
-      ]),
-      (λ k l. get_or-set_other answers i k r (Ok tt) (λ z. omega arith) ∙ noted.2 k (omega arith)),
-    )
+            (noted.each k (omega arith) (omega (arith, length-set answers i r)))
+      ];
+      others = λ k l. get_or-set_other answers i k r (Ok tt) (λ z. omega arith) ∙ noted.others k (omega arith);
+    })

@@ -1,5 +1,5 @@
 -- A line that was offered sound has a worst sound copy.
-use Rattle.std.proofs.Common.{◌≡◌, ℕ, ◌<◌, ◌≤◌, true, false, ◌⊎◌, List, [], ◌∷◌, ◌++◌, Some, None, Option, sym, refl, ap, subst, inl, inr, ⊎_elim, arith}
+use Rattle.std.proofs.Common.{◌≡◌, ℕ, ◌≤◌, true, ◌⊎◌, List, [], ◌∷◌, ◌++◌, Some, None, Option, sym, refl, ap, subst, inl, inr, arith}
 use Rattle.std.proofs.lemmas.Bool.{cases_Bool, cases_eq, cases_lt, both_ways}
 use Rattle.carriers.specs.Meaning.{has, Meaning}
 use Rattle.denial.specs.declared.Denial.{Denial}
@@ -11,19 +11,16 @@ use Rattle.transfer.specs.Steps.{after_steps, OfferedSound, SoundCopy, SoundLine
 use Rattle.transfer.specs.declared.steps.Step.{Step}
 use Rattle.transfer.specs.declared.steps.Step.TheVariants.{Offer, Write}
 
-none_or_not : (o : Option Denial) → (o ≡ None) ⊎ (o ≡ None → ⊥)
-none_or_not None = inl refl
-none_or_not (Some d) = inr (λ e. let z : ◌≡◌ {A = ℕ} 0 1 = cc in omega arith)
+sound_by : (c : Meaning) (n : ℕ) → has c n 0 ≡ true → (o : Option Denial) → fault (c.word n) n ≡ o → SoundLine c n ⊎ (SoundLine c n → ⊥)
+sound_by c n here None e = inl (record { here = here; sound = (faults_found (c.word n) n).0 e })
+sound_by c n here (Some d) e = inr (λ s. let none = (faults_found (c.word n) n).1 s.sound in cc)
 
 sound_or_not : (c : Meaning) (n : ℕ) → SoundLine c n ⊎ (SoundLine c n → ⊥)
 sound_or_not c n =
-    ⊎_elim
-    (λ (here : has c n 0 ≡ true). ⊎_elim
-    (λ (ok : fault (c.word n) n ≡ None). inl (record { here = here; sound = (faults_found (c.word n) n).0 ok }))
-    (λ (ne : fault (c.word n) n ≡ None → ⊥). inr (λ s. ne ((faults_found (c.word n) n).1 s.sound)))
-    (none_or_not (fault (c.word n) n)))
-    (λ (out : has c n 0 ≡ false). inr (λ s. both_ways (has c n 0) out s.here))
-    (cases_Bool (has c n 0))
+    elim (cases_Bool (has c n 0)) [
+      | inl here ↦ sound_by c n here (fault (c.word n) n) refl
+      | inr out ↦ inr (λ s. both_ways (has c n 0) out s.here)
+    ]
 
 -- After b the list offers line n, and S holds of b.
 record Found (S : List Step → Type 0) (ss b : List Step) (n : ℕ) : Type 0 where
@@ -77,20 +74,20 @@ module _ (S : List Step → Type 0) (h : List Step → ℕ) (x : Step) (ss : Lis
       → ((b : List Step) → Found S (x ∷ ss) b n → ⊥) ⊎ ((k : ℕ) × Best S h (x ∷ ss) n k)
   join (inl y) (inl none) = inr (h [], here_best y.0 y.1 (λ b q. absurd (none b q)))
   join (inl y) (inr r) =
-      ⊎_elim
-      (λ (l : r.0 < h []). inr (h [], here_best y.0 y.1 (λ c q. let m : h (x ∷ c) ≤ r.0 = r.1.most c q in omega arith)))
-      (λ (l : h [] ≤ r.0). inr (r.0, later_best r.0 (λ _ _. l) r.1))
-      (cases_lt r.0 (h []))
+      elim (cases_lt r.0 (h [])) [
+        | inl l ↦ inr (h [], here_best y.0 y.1 (λ c q. let m : h (x ∷ c) ≤ r.0 = r.1.most c q in omega arith))
+        | inr l ↦ inr (r.0, later_best r.0 (λ _ _. l) r.1)
+      ]
   join (inr ne) (inl none) = inl (none_found ne none)
   join (inr ne) (inr r) = inr (r.0, later_best r.0 (λ is s. absurd (ne (is, s))) r.1)
 
 is_here : (x : Step) (n : ℕ) (A : Type 0) → A ⊎ (A → ⊥) → ((x ≡ Offer n) × A) ⊎ ((x ≡ Offer n) × A → ⊥)
-is_here (Write l w v) n A d = inr (λ t. let i = t.0 in let z : ◌≡◌ {A = ℕ} 0 1 = cc in omega arith)
+is_here (Write l w v) n A d = inr (λ t. let i = t.0 in cc)
 is_here (Offer k) n A d =
-    ⊎_elim
-    (λ (s : k ≡ n). ⊎_elim (λ (a : A). inl (ap Offer s, a)) (λ (na : A → ⊥). inr (λ t. na t.1)) d)
-    (λ (ne : k ≡ n → ⊥). inr (λ t. let i = t.0 in let z : k ≡ n = cc in ne z))
-    (cases_eq k n)
+    elim (cases_eq k n) [
+      | inl s ↦ elim d [ inl a ↦ inl (ap Offer s, a) | inr na ↦ inr (λ t. na t.1) ]
+      | inr ne ↦ inr (λ t. let i = t.0 in ne (cc))
+    ]
 
 best : (ss : List Step) (S : List Step → Type 0) → ((b : List Step) → S b ⊎ (S b → ⊥)) → (h : List Step → ℕ) (n : ℕ)
     → ((b : List Step) → Found S ss b n → ⊥) ⊎ ((k : ℕ) × Best S h ss n k)
@@ -101,14 +98,14 @@ pub worst : (mapped : Meaning) (ss : List Step) (p c n : ℕ) → OfferedSound m
 worst mapped ss p c n o =
     let S : List Step → Type 0 = λ b. SoundLine (after_steps mapped b) n in
     let found : (b : List Step) → SoundCopy mapped ss b n → Found S ss b n = λ b q. record { rest = q.rest; there = q.there; here = q.sound } in
-    ⊎_elim
-    (λ (none : (b : List Step) → Found S ss b n → ⊥). absurd (none o.0 (found o.0 o.1)))
-    (λ (r : (k : ℕ) × Best S (altered_on mapped ss p c n) ss n k).
-    let q = r.1.reached in (
-      r.0,
-      record {
-        reached = (q.0, record { rest = q.1.rest; there = q.1.there; sound = q.1.here }, q.2);
-        most = λ b s. r.1.most b (found b s);
-      },
-    ))
-    (best ss S (λ b. sound_or_not (after_steps mapped b) n) (altered_on mapped ss p c n) n)
+    elim (best ss S (λ b. sound_or_not (after_steps mapped b) n) (altered_on mapped ss p c n) n) [
+      | inl none ↦ absurd (none o.0 (found o.0 o.1))
+      | inr r ↦
+          let q = r.1.reached in (
+            r.0,
+            record {
+              reached = (q.0, record { rest = q.1.rest; there = q.1.there; sound = q.1.here }, q.2);
+              most = λ b s. r.1.most b (found b s);
+            },
+          )
+    ]

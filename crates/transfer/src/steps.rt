@@ -39,7 +39,7 @@ pub fn carry_out<C: WritableCarrier>(
     }
 }
 
-// Notes an answer where there is room for it.
+// Notes an answer where there is room for it. By index, since places may end before the steps do, and every step is carried out.
 fn note(answers: &mut [Result<(), Denial>], i: usize, answer: Result<(), Denial>)
     ensures { answers.new ≡ slice_set answers.old i answer }
 {

@@ -9,7 +9,7 @@ use denial::Denial;
 use receiver::{Closed, Gathering};
 use sender::Sender;
 
-/// What became of a transfer.
+/// What became of a transfer. Not a `Result`, which would lose the lent memory where mapping is refused.
 #[derive(Drop)]
 pub struct Outcome<'m> {
     /// The answer to mapping. Where it was refused, no step was carried out.

@@ -1,13 +1,8 @@
-use Rattle.std.proofs.Common.{ap, ◌∙◌, arith, length-set}
-use Rattle.layout.specs.Words.{received_byte}
-use Rattle.receiver.proofs.Taking.{line_more}
+use Rattle.std.proofs.Common.{arith}
+use Rattle.receiver.proofs.Taking.{taken}
 use Rattle.receiver.proofs.offers.take_line.Goals as goal
 
-pub loop-j-preserved : goal.loop-j-preserved
-loop-j-preserved g c =
-    let inv = c.loop-j.invariant in (
-      omega arith,
-      length-set c.loop-j.memory _ c.received_byte.result ∙ inv.1,
-      line_more c.args.memory.now c.loop-j.memory ((g.C.Carrier.meaning c.args.carrier.now).word c.args.line) c.args.line c.loop-j.j
-          c.received_byte.result (omega arith) inv.2 (c.received_byte.ensures ∙ ap received_byte c.word_of.ensures),
-    )
+pub returns-clause-bytes : goal.returns-clause-bytes
+returns-clause-bytes g c =
+    taken c.args.memory.now c.loop-j.byte-items ((g.C.Carrier.meaning c.args.held.now.carrier.now).word c.args.held.now.line) c.args.held.now.line _
+    c.requires.memory c.requires.line c.loop-j.invariant.0 (omega arith) (λ j h. c.loop-j.invariant.1 j (omega arith))
