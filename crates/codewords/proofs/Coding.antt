@@ -1,5 +1,6 @@
 -- Coding data: four check bytes written after it.
-use Rattle.std.proofs.Common.{◌≡◌, ℕ, suc, ◌+◌, ◌<◌, List, [], ◌∷◌, ◌++◌, map, length, get_or, take, drop, set, Ok, Err, Result, sym, refl, ap, ◌∙◌, subst, ap₂, append_assoc, mod-eq_of_lt, arith, length-append, length-set, take-append-drop, take_at}
+use Rattle.std.proofs.Common.{◌≡◌, ℕ, suc, ◌+◌, ◌<◌, List, [], ◌∷◌, ◌++◌, map, length, get_or, take, drop, Ok, Err, Result, sym, refl, ap, ◌∙◌, subst, ap₂, mod-eq_of_lt, arith, length-append, take-append-drop, take_at}
+use Rattle.std.proofs.lemmas.Grind.{common_steps}
 use native.Mathlib.Decide.{dec_lt}
 use Rattle.std.proofs.lemmas.List.{length-map, map-append, take-map, get_or_append_left, get_or_push}
 use Rattle.galois.specs.Field.{Arithmetic, Laws}
@@ -22,10 +23,7 @@ use Rattle.codewords.proofs.Numbers.{same_numbers}
 
 module _ {F : Type 0} (K : Arithmetic F) where
   pub refused : (d before : List ℕ) (i : ℕ) → FirstWide K d i → MadeBytes K d before before (Err (denied Wide Code 0 i))
-  refused d before i first = record {
-    too_wide = λ j also. (refl, ap (λ k. Err (denied Wide Code 0 k)) (first_once K d i j first also));
-    made = λ all. absurd (omega (arith, all i first.inside, first.wide));
-  }
+  refused d before i first = grind (arith, common_steps, first_once)
 
   module _ (laws : Laws K) (d : List ℕ) (w : List F) (c : Cubic F) (e : map K.number w ≡ d) (checks : Checks K w c) where
     abbrev whole : List ℕ

@@ -19,11 +19,9 @@ fn read_symbols<F: Field>(bytes: &[u8], word: &mut [F]) -> Result<(), Denial>
     requires { length word.old ≡ length bytes.now }
     ensures { ReadAs F.field bytes.now word.new result }
 {
+    // By index, since a proof learns nothing of what is written through a zipped `iter_mut`.
     for (i, byte) in bytes.iter().enumerate() {
-        match F::from_number(*byte) {
-            Some(symbol) => word[i] = symbol,
-            None => return Err(Denial::new(Reason::Wide, Layer::Code, 0, i)),
-        }
+        word[i] = F::from_number(*byte).ok_or(Denial::new(Reason::Wide, Layer::Code, 0, i))?;
     }
     Ok(())
 }
@@ -33,6 +31,7 @@ fn write_numbers<F: Field>(word: &[F], bytes: &mut [u8])
     requires { length word.now ≡ length bytes.old }
     ensures { bytes.new ≡ map F.field.number word.now }
 {
+    // By index, as above.
     for (i, symbol) in word.iter().enumerate() {
         bytes[i] = symbol.number();
     }

@@ -1,4 +1,3 @@
-use Rattle.std.proofs.Common.{◌∙◌}
 use Rattle.std.proofs.lemmas.Result.{err_from_is_err_and}
 use Rattle.codewords.proofs.Coding.{refused, made}
 use Rattle.codewords.proofs.symbols.make_bytes.Goals as goal
