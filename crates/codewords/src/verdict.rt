@@ -54,11 +54,9 @@ impl fmt::Display for Verdict {
 pub fn judge(block: &[u8]) -> Verdict
     ensures { Judged block.now result }
 {
-    if block.len() != BLOCK {
+    let Ok(mut copy) = <[u8; BLOCK]>::try_from(block) else {
         return Verdict::Short(block.len());
-    }
-    let mut copy = [0; BLOCK];
-    copy.copy_from_slice(block);
+    };
     match mend_block(&mut copy) {
         Ok(mends) => mends.into(),
         Err(_) => Verdict::Lost,
