@@ -83,24 +83,24 @@ block_made basic before after r lb bytes wrong m =
           ((m (lp ∙ sym size)).made (data_numbers basic bytes));
     }
 
-pub label_made : (digits before after : List ℕ) (r : Result (Unit {0}) Denial) → length digits ≡ 11 →
-    (¬ (length before ≡ length digits + 4) → Refused before after r (denied Length Code (length before) 0)) →
-    (length before ≡ length digits + 4 → MadeBytes gf16 digits before after r) → LabelMade digits before after r
-label_made digits before after r ld wrong m = record {
-  wrong_digits = λ ne. absurd (ne ld);
-  wrong_place = λ _ ne. wrong (λ e. ne (omega arith));
-  too_wide = λ _ lp. (m (omega arith)).too_wide;
-  made = λ _ lp all. let p = (m (omega arith)).made all in (p.0, label after p.1, λ v l. p.2 v (from v l));
+pub label_made : (digits before after : List ℕ) (r : Result (Unit {0}) Denial) →
+    (¬ (length digits ≡ 11) → Refused before after r (denied Length Code (length digits) 0)) →
+    (length digits ≡ 11 → ¬ (length before ≡ length digits + 4) → Refused before after r (denied Length Code (length before) 0)) →
+    (length digits ≡ 11 → length before ≡ length digits + 4 → MadeBytes gf16 digits before after r) → LabelMade digits before after r
+label_made digits before after r wrong place m = record {
+  wrong_digits = wrong;
+  wrong_place = λ ld ne. place ld (λ e. ne (omega (arith, ld, e)));
+  too_wide = λ ld lp. (m ld (omega (arith, ld, lp))).too_wide;
+  made = λ ld lp all.
+      let p = (m ld (omega (arith, ld, lp))).made all in
+      (p.0, label ld after p.1, λ v l. p.2 v (from ld v l));
 }
   where
-    size : length digits + 4 ≡ 15
-    size = omega arith
+    label : length digits ≡ 11 → (v : List ℕ) → CodedFrom gf16 (length digits + 4) digits v → LabelOf digits v
+    label ld v c = record { begins = subst (λ n. take n v ≡ digits) ld c.begins; coded = subst (λ n. CodedBytes gf16 (n + 4) v) ld c.coded }
 
-    label : (v : List ℕ) → CodedFrom gf16 (length digits + 4) digits v → LabelOf digits v
-    label v c = record { begins = subst (λ n. take n v ≡ digits) ld c.begins; coded = subst (λ n. CodedBytes gf16 n v) size c.coded }
-
-    from : (v : List ℕ) → LabelOf digits v → CodedFrom gf16 (length digits + 4) digits v
-    from v l = record { begins = subst (λ n. take n v ≡ digits) (sym ld) l.begins; coded = subst (λ n. CodedBytes gf16 n v) (sym size) l.coded }
+    from : length digits ≡ 11 → (v : List ℕ) → LabelOf digits v → CodedFrom gf16 (length digits + 4) digits v
+    from ld v l = record { begins = subst (λ n. take n v ≡ digits) (sym ld) l.begins; coded = subst (λ n. CodedBytes gf16 (n + 4) v) (sym ld) l.coded }
 
 -- each byte is the number of the element that it gives
 read_back : (b : List ℕ) → AllNumbers gf256 b → map gf256.number (map of_byte b) ≡ b

@@ -29,6 +29,7 @@ pub fn mend_block(block: &mut [u8]) -> Result<MendRecord, Denial>
 pub fn make_block(basic: &[u8], coded: &mut [u8]) -> Result<(), Denial>
     ensures { BlockMade basic.now coded.old coded.new result }
 {
+    // A test of its own, since what `make_bytes` measures has the reserved byte too.
     if basic.len() != BASIC {
         return Err(Denial::new(Reason::Length, Layer::Field, basic.len(), 0));
     }

@@ -5,7 +5,7 @@ ghost use Rattle.galois.specs.Fields.{gf16};
 
 use crate::symbols::{make_bytes, mend_bytes};
 use codec::MendRecord;
-use denial::{Denial, Layer, Reason};
+use denial::Denial;
 use galois::{Field, Gf16};
 
 // How many digits a label has, and how many of them are data.
@@ -26,8 +26,5 @@ pub fn mend_label(label: &mut [u8]) -> Result<MendRecord, Denial>
 pub fn make_label(digits: &[u8], label: &mut [u8]) -> Result<(), Denial>
     ensures { LabelMade digits.now label.old label.new result }
 {
-    if digits.len() != DATA {
-        return Err(Denial::new(Reason::Length, Layer::Code, digits.len(), 0));
-    }
     make_bytes(digits, &mut [Gf16::zero(); DATA], label)
 }

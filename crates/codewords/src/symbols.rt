@@ -67,19 +67,23 @@ fn write_coded<F: Field>(source: &[u8], checks: Cubic<F>, coded: &mut [u8])
     back.copy_from_slice(&[k3.number(), k2.number(), k1.number(), k0.number()]);
 }
 
-// Codes `source`, read as symbols in `word`, into `coded`. Refused, not a byte there is written: `length` for a place of another
-// length than the coded word's, then `wide` for a byte that is no number of a symbol.
+// Codes the symbols that `source` has the numbers of into `coded`. `word` has a place for each data symbol. Refused, not a byte there
+// is written: `length` for another length of `source`, then of `coded`, then `wide` for a byte that is no number of a symbol.
 pub(crate) fn make_bytes<F: Field>(
     source: &[u8],
     word: &mut [F],
     coded: &mut [u8],
 ) -> Result<(), Denial>
-    requires same { length word.old ≡ length source.now }
-    requires long { 1 ≤ length source.now }
-    requires short { length source.now + 4 ≤ F.field.order }
-    ensures wrong_place { ¬ (length coded.old ≡ length source.now + 4) → Refused coded.old coded.new result (denied Length Code (length coded.old) 0) }
-    ensures made { length coded.old ≡ length source.now + 4 → MadeBytes F.field source.now coded.old coded.new result }
+    requires long { 1 ≤ length word.old }
+    requires short { length word.old + 4 ≤ F.field.order }
+    ensures wrong_length { ¬ (length source.now ≡ length word.old) → Refused coded.old coded.new result (denied Length Code (length source.now) 0) }
+    ensures wrong_place { length source.now ≡ length word.old → ¬ (length coded.old ≡ length source.now + 4) →
+        Refused coded.old coded.new result (denied Length Code (length coded.old) 0) }
+    ensures made { length source.now ≡ length word.old → length coded.old ≡ length source.now + 4 → MadeBytes F.field source.now coded.old coded.new result }
 {
+    if source.len() != word.len() {
+        return Err(Denial::new(Reason::Length, Layer::Code, source.len(), 0));
+    }
     if coded.len() != source.len() + CHECKS {
         return Err(Denial::new(Reason::Length, Layer::Code, coded.len(), 0));
     }

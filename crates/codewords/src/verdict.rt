@@ -82,6 +82,7 @@ pub fn verdict_lines(alloc: Global, first: u64, bytes: &[u8]) -> Result<String, 
     for block in bytes.chunks(BLOCK) {
         let line = verdict_line(alloc, ordinal, block)?;
         text.push_str(line.as_str())?;
+        // By hand, since a range would end where ordinals wrap.
         ordinal = ordinal.wrapping_add(1);
     }
     Ok(text)
