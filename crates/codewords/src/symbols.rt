@@ -47,13 +47,9 @@ pub(crate) fn mend_bytes<F: Field>(bytes: &mut [u8], word: &mut [F]) -> Result<M
         return Err(Denial::new(Reason::Length, Layer::Code, bytes.len(), 0));
     }
     read_symbols(bytes, word)?;
-    match mend(word) {
-        Some(mends) => {
-            write_numbers(word, bytes);
-            Ok(mends)
-        }
-        None => Err(Denial::new(Reason::Lost, Layer::Code, 0, 0)),
-    }
+    let mends = mend(word).ok_or(Denial::new(Reason::Lost, Layer::Code, 0, 0))?;
+    write_numbers(word, bytes);
+    Ok(mends)
 }
 
 // Writes `source` and then the numbers of the check symbols.

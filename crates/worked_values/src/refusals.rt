@@ -2,7 +2,7 @@
 use codec::{check_symbols, mend};
 use codewords::{make_block, make_label, mend_block, mend_label};
 use denial::{Denial, Layer, Reason};
-use galois::Field;
+use galois::{Field, Gf16};
 use std::test::Fail;
 
 fn length(bytes: usize) -> Denial {
@@ -72,11 +72,11 @@ fn a_block_is_made_in_224_bytes(rt: HostRuntime) {
 
 #[test]
 fn lengths_that_the_code_has_not(rt: HostRuntime) {
-    let mut four = [<galois::Gf16 as galois::Field>::zero(); 4];
+    let mut four = [Gf16::zero(); 4];
     assert!(rt; mend(&mut four).is_none());
-    let mut sixteen = [<galois::Gf16 as galois::Field>::zero(); 16];
+    let mut sixteen = [Gf16::zero(); 16];
     assert!(rt; mend(&mut sixteen).is_none());
-    let twelve = [<galois::Gf16 as galois::Field>::zero(); 12];
+    let twelve = [Gf16::zero(); 12];
     assert!(rt; check_symbols(&twelve).is_none());
 }
 
