@@ -82,7 +82,7 @@ fn three_altered_check_bytes_are_lost(rt: HostRuntime) {
     block[222] = 1;
     block[223] = 1;
     let before = block;
-    assert!(rt; mend_block(&mut block) == Err(lost()));
+    assert_eq!(rt; mend_block(&mut block), Err(lost()));
     assert_eq!(rt; block, before);
 }
 
@@ -95,13 +95,13 @@ fn an_error_past_the_start_is_lost(rt: HostRuntime) {
     block[222] = 0x02;
     block[223] = 0x05;
     let before = block;
-    assert!(rt; mend_block(&mut block) == Err(lost()));
+    assert_eq!(rt; mend_block(&mut block), Err(lost()));
     assert_eq!(rt; block, before);
 }
 
 #[test]
 fn three_altered_label_digits_are_lost(rt: HostRuntime) {
     let mut label = [0, 0, 0, 0, 0, 0, 0, 0, 0, 0, 0, 0, 1, 1, 1];
-    assert!(rt; mend_label(&mut label) == Err(lost()));
+    assert_eq!(rt; mend_label(&mut label), Err(lost()));
     assert_eq!(rt; label, [0, 0, 0, 0, 0, 0, 0, 0, 0, 0, 0, 0, 1, 1, 1]);
 }

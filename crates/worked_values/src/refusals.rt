@@ -16,24 +16,24 @@ fn wide(place: usize) -> Denial {
 #[test]
 fn blocks_of_another_length(rt: HostRuntime) {
     let mut short = [7; 223];
-    assert!(rt; mend_block(&mut short) == Err(length(223)));
+    assert_eq!(rt; mend_block(&mut short), Err(length(223)));
     assert_eq!(rt; short, [7; 223]);
     let mut long = [7; 225];
-    assert!(rt; mend_block(&mut long) == Err(length(225)));
+    assert_eq!(rt; mend_block(&mut long), Err(length(225)));
     assert_eq!(rt; long, [7; 225]);
 }
 
 #[test]
 fn a_label_is_measured_before_its_digits(rt: HostRuntime) {
     let mut label = [16; 14];
-    assert!(rt; mend_label(&mut label) == Err(length(14)));
+    assert_eq!(rt; mend_label(&mut label), Err(length(14)));
     assert_eq!(rt; label, [16; 14]);
 }
 
 #[test]
 fn the_first_wide_digit_is_named(rt: HostRuntime) {
     let mut label = [0, 0, 0, 16, 0, 0, 0, 0, 255, 0, 0, 0, 0, 0, 0];
-    assert!(rt; mend_label(&mut label) == Err(wide(3)));
+    assert_eq!(rt; mend_label(&mut label), Err(wide(3)));
     assert_eq!(rt; label, [0, 0, 0, 16, 0, 0, 0, 0, 255, 0, 0, 0, 0, 0, 0]);
 }
 
@@ -83,6 +83,6 @@ fn lengths_that_the_code_has_not(rt: HostRuntime) {
 #[test]
 fn a_denial_in_words(rt: HostRuntime) -> Result<(), Fail> {
     let text = format!(in rt.alloc(); "{}", wide(3))?;
-    assert!(rt; text.as_str() == "3 wide code 0 3");
+    assert_eq!(rt; text.as_str(), "3 wide code 0 3");
     Ok(())
 }
