@@ -23,6 +23,7 @@ fn tell_all<R: Read, W: Write>(alloc: Global, input: &mut R, output: &mut W) -> 
         if piece.len() < PIECE {
             break;
         }
+        // By hand, since a range would end where ordinals wrap.
         ordinal = ordinal.wrapping_add(BLOCKS as u64);
     }
     output.flush()
