@@ -1,9 +1,10 @@
 -- Coding data: four check bytes written after it.
-use Rattle.std.proofs.Common.{◌≡◌, ℕ, suc, ◌+◌, ◌<◌, List, [], ◌∷◌, ◌++◌, map, length, get_or, take, drop, set, Ok, Err, Result, sym, refl, ap, ◌∙◌, subst, ap₂, append_assoc, mod-eq_of_lt, arith, length-append, length-set, take-append-drop, take_all, take_at}
+use Rattle.std.proofs.Common.{◌≡◌, ℕ, suc, ◌+◌, ◌<◌, List, [], ◌∷◌, ◌++◌, map, length, get_or, take, drop, Ok, Err, Result, sym, refl, ap, ◌∙◌, subst, ap₂, mod-eq_of_lt, arith, length-append, take-append-drop, take_at}
+use Rattle.std.proofs.lemmas.Grind.{common_steps}
 use native.Mathlib.Decide.{dec_lt}
-use Rattle.std.proofs.lemmas.List.{length-map, map-append, take-map, take_more_set, get_or_append_left, get_or_push}
+use Rattle.std.proofs.lemmas.List.{length-map, map-append, take-map, get_or_append_left, get_or_push}
 use Rattle.galois.specs.Field.{Arithmetic, Laws}
-use Rattle.galois.specs.Fields.{gf256, of_byte}
+use Rattle.galois.specs.Fields.{gf16, gf256, of_byte}
 use Rattle.galois.specs.declared.cubic.Cubic.{Cubic}
 use Rattle.galois.specs.Elements.{laws256}
 use Rattle.galois.specs.Remainders.{row256, left256}
@@ -12,40 +13,17 @@ use Rattle.codec.specs.Check.{symbols, Checks}
 use Rattle.codec.proofs.Dividing.{some_checks}
 use Rattle.denial.specs.Denials.{denied}
 use Rattle.denial.specs.declared.Denial.{Denial}
-use Rattle.denial.specs.declared.Reason.TheVariants.{Wide}
+use Rattle.denial.specs.declared.Reason.TheVariants.{Wide, Length}
 use Rattle.denial.specs.declared.Layer.TheVariants.{Code}
-use Rattle.codewords.specs.Bytes.{AllNumbers, FirstWide, CodedFrom, MadeBytes}
+use Rattle.codewords.specs.Bytes.{AllNumbers, CodedBytes, CodedFrom, FirstWide, MadeBytes, Refused}
 use Rattle.codewords.specs.Blocks.{BlockMade, OneBlock}
+use Rattle.codewords.specs.Labels.{LabelMade, LabelOf}
 use Rattle.codewords.proofs.Mends.{all_numbers, first_once}
 use Rattle.codewords.proofs.Numbers.{same_numbers}
 
--- one byte more is written
-set_more : (l front : List ℕ) (i j a : ℕ) → i < length l → j ≡ i + 1 → take i l ≡ front → take j (set l i a) ≡ front ++ (a ∷ [])
-set_more l front i j a inside next before =
-    ap (λ k. take k (set l i a)) next ∙ take_more_set l i a inside ∙ ap (λ x. x ++ (a ∷ [])) before
-
-pub four_set : (l before : List ℕ) (n a b c d : ℕ) → length l ≡ n + 4 → take n l ≡ before →
-    set (set (set (set l n a) (n + 1) b) (n + 2) c) (n + 3) d ≡ before ++ (a ∷ b ∷ c ∷ d ∷ [])
-four_set l before n a b c d size front =
-    let m = set l n a in
-    let o = set m (n + 1) b in
-    let p = set o (n + 2) c in
-    let hm : length m ≡ n + 4 = length-set l n a ∙ size in
-    let ho : length o ≡ n + 4 = length-set m (n + 1) b ∙ hm in
-    let hp : length p ≡ n + 4 = length-set o (n + 2) c ∙ ho in
-    let first = set_more l before n (n + 1) a (omega arith) refl front in
-    let second = set_more m _ (n + 1) (n + 2) b (omega arith) (omega arith) first in
-    let third = set_more o _ (n + 2) (n + 3) c (omega arith) (omega arith) second in
-    sym (take_all (n + 4) (set p (n + 3) d) (omega (arith, length-set p (n + 3) d)))
-    ∙ set_more p _ (n + 3) (n + 4) d (omega arith) (omega arith) third
-    ∙ simp append_assoc
-
 module _ {F : Type 0} (K : Arithmetic F) where
   pub refused : (d before : List ℕ) (i : ℕ) → FirstWide K d i → MadeBytes K d before before (Err (denied Wide Code 0 i))
-  refused d before i first = record {
-    too_wide = λ j also. (refl, ap (λ k. Err (denied Wide Code 0 k)) (first_once K d i j first also));
-    made = λ all. absurd (omega (arith, all i first.inside, first.wide));
-  }
+  refused d before i first = grind (arith, common_steps, first_once)
 
   module _ (laws : Laws K) (d : List ℕ) (w : List F) (c : Cubic F) (e : map K.number w ≡ d) (checks : Checks K w c) where
     abbrev whole : List ℕ
@@ -91,16 +69,38 @@ data_numbers basic bytes i h =
       | no past ↦ omega (arith, length-append basic (0 ∷ []), get_or_push basic 0 0 i (omega (arith, length-append basic (0 ∷ []))))
     ]
 
-pub block_made : (basic before after : List ℕ) (r : Result (Unit {0}) Denial) → length basic ≡ 219 → length before ≡ 224 →
-    ((i : ℕ) → i < length basic → get_or basic i 0 < 256) → MadeBytes gf256 (basic ++ (0 ∷ [])) before after r → BlockMade basic before after r
-block_made basic before after r lb lp bytes m = record {
-  wrong_bytes = λ ne. absurd (ne lb);
-  wrong_place = λ _ ne. absurd (ne lp);
-  made = λ _ _.
-      let d = basic ++ (0 ∷ []) in
-      subst (λ n. (r ≡ Ok tt) × CodedFrom gf256 n d after × ((v : List ℕ) → CodedFrom gf256 n d v → v ≡ after))
-      (omega (arith, data_size basic 0 lb)) (m.made (data_numbers basic bytes));
+pub block_made : (basic before after : List ℕ) (r : Result (Unit {0}) Denial) → length basic ≡ 219 → ((i : ℕ) → i < length basic → get_or basic i 0 < 256) →
+    let d = basic ++ (0 ∷ []) in
+    (¬ (length before ≡ length d + 4) → Refused before after r (denied Length Code (length before) 0)) →
+    (length before ≡ length d + 4 → MadeBytes gf256 d before after r) → BlockMade basic before after r
+block_made basic before after r lb bytes wrong m =
+    let d = basic ++ (0 ∷ []) in
+    let size : length d + 4 ≡ 224 = omega (arith, data_size basic 0 lb) in
+    record {
+      wrong_bytes = λ ne. absurd (ne lb);
+      wrong_place = λ _ ne. wrong (λ e. ne (e ∙ size));
+      made = λ _ lp. subst (λ n. (r ≡ Ok tt) × CodedFrom gf256 n d after × ((v : List ℕ) → CodedFrom gf256 n d v → v ≡ after)) size
+          ((m (lp ∙ sym size)).made (data_numbers basic bytes));
+    }
+
+pub label_made : (digits before after : List ℕ) (r : Result (Unit {0}) Denial) →
+    (¬ (length digits ≡ 11) → Refused before after r (denied Length Code (length digits) 0)) →
+    (length digits ≡ 11 → ¬ (length before ≡ length digits + 4) → Refused before after r (denied Length Code (length before) 0)) →
+    (length digits ≡ 11 → length before ≡ length digits + 4 → MadeBytes gf16 digits before after r) → LabelMade digits before after r
+label_made digits before after r wrong place m = record {
+  wrong_digits = wrong;
+  wrong_place = λ ld ne. place ld (λ e. ne (omega (arith, ld, e)));
+  too_wide = λ ld lp. (m ld (omega (arith, ld, lp))).too_wide;
+  made = λ ld lp all.
+      let p = (m ld (omega (arith, ld, lp))).made all in
+      (p.0, label ld after p.1, λ v l. p.2 v (from ld v l));
 }
+  where
+    label : length digits ≡ 11 → (v : List ℕ) → CodedFrom gf16 (length digits + 4) digits v → LabelOf digits v
+    label ld v c = record { begins = subst (λ n. take n v ≡ digits) ld c.begins; coded = subst (λ n. CodedBytes gf16 (n + 4) v) ld c.coded }
+
+    from : length digits ≡ 11 → (v : List ℕ) → LabelOf digits v → CodedFrom gf16 (length digits + 4) digits v
+    from ld v l = record { begins = subst (λ n. take n v ≡ digits) (sym ld) l.begins; coded = subst (λ n. CodedBytes gf16 (n + 4) v) (sym ld) l.coded }
 
 -- each byte is the number of the element that it gives
 read_back : (b : List ℕ) → AllNumbers gf256 b → map gf256.number (map of_byte b) ≡ b

@@ -1,6 +1,4 @@
 pub mod Numbers
 pub mod Mends
-pub mod Making
 pub mod Coding
-pub mod Telling
 pub mod Streams

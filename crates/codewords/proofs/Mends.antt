@@ -1,5 +1,6 @@
 -- From mending symbols to mending bytes.
-use Rattle.std.proofs.Common.{◌≡◌, ℕ, zero, suc, ◌<◌, ◌≤◌, ◌⊎◌, List, map, length, get_or, Some, None, Ok, Err, Option, Result, sym, refl, ap, ◌∙◌, subst, inl, inr, arith}
+use Rattle.std.proofs.Common.{◌≡◌, ℕ, zero, suc, ◌<◌, ◌≤◌, ◌⊎◌, add-one, List, map, length, get_or, Some, None, Ok, Err, Option, Result, sym, refl, ap, below_more, ◌∙◌, subst, inl, inr, arith}
+use Rattle.std.proofs.lemmas.Grind.{common_steps}
 use native.Mathlib.Decide.{ℕ_discrete, dec_lt}
 use lib.Seq.{take-length}
 use Rattle.std.proofs.lemmas.List.{length-map, take_all}
@@ -25,31 +26,13 @@ module _ {F : Type 0} (K : Arithmetic F) where
   -- there is one first
   pub first_once : (b : List ℕ) (i j : ℕ) → FirstWide K b i → FirstWide K b j → i ≡ j
   first_once b i j p q =
-      elim (dec_lt i j) [
-        | yes h ↦ omega (arith, q.first i h, p.wide)
-        | no nh ↦ elim (dec_lt j i) [
-          | yes h ↦ omega (arith, p.first j h, q.wide)
-          | no mh ↦ omega arith
-        ]
-      ]
+      grind (arith, common_steps)
 
   pub refused_length : (n : ℕ) (b : List ℕ) → ¬ (length b ≡ n) → MendedBytes K n b b (Err (denied Length Code (length b) 0))
-  refused_length n b ne = record {
-    wrong_length = λ _. (refl, refl);
-    too_wide = λ e. absurd (ne e);
-    lost = λ e. absurd (ne e);
-    mends = λ all v near. absurd (ne near.size);
-    sound = λ m e. absurd (not_both _ m _ e refl);
-  }
+  refused_length n b ne = grind (arith, common_steps)
 
   pub refused_wide : (b : List ℕ) (i : ℕ) → FirstWide K b i → MendedBytes K (length b) b b (Err (denied Wide Code 0 i))
-  refused_wide b i first = record {
-    wrong_length = λ ne. absurd (ne refl);
-    too_wide = λ _ j also. (refl, ap (λ k. Err (denied Wide Code 0 k)) (first_once b i j first also));
-    lost = λ _ all. absurd (omega (arith, all i first.inside, first.wide));
-    mends = λ all. absurd (omega (arith, all i first.inside, first.wide));
-    sound = λ m e. absurd (not_both _ m _ e refl);
-  }
+  refused_wide b i first = grind (arith, common_steps, first_once)
 
   -- either some byte is the first that is no number, or none is
   wide_below : (b : List ℕ) (k : ℕ) → k ≤ length b → ((i : ℕ) × FirstWide K b i) ⊎ ((j : ℕ) → j < k → get_or b j 0 < K.size)
@@ -58,14 +41,10 @@ module _ {F : Type 0} (K : Arithmetic F) where
       elim (wide_below b k (omega arith)) [
         | inl found ↦ inl found
         | inr before ↦ elim (dec_lt (get_or b k 0) K.size) [
-          | yes below ↦ inr (below_more' k before below)
+          | yes below ↦ inr (let next = below_more (λ j. get_or b j 0 < K.size) k before below in rw add-one at next)
           | no wide ↦ inl (k, record { inside = omega arith; wide = omega arith; first = before })
         ]
       ]
-    where
-      below_more' : (k : ℕ) → ((j : ℕ) → j < k → get_or b j 0 < K.size) → get_or b k 0 < K.size → (j : ℕ) → j < suc k → get_or b j 0 < K.size
-      below_more' k before here j l =
-          elim (ℕ_discrete j k) [ yes e ↦ subst (λ i. get_or b i 0 < K.size) (sym e) here | no ne ↦ before j (omega arith) ]
 
   pub some_wide : (b : List ℕ) → ((i : ℕ) × FirstWide K b i) ⊎ AllNumbers K b
   some_wide b = wide_below b (length b) (omega arith)
@@ -134,16 +113,14 @@ by_answer K n b u v (Ok m) s p q e all =
     let x = p.mends all u near in
     let y = q.mends all u near in
     (sym y.0, x.1.1 ∙ ap Ok (same_places x.1.0 y.1.0 (x.1.2 ∙ sym y.1.2)) ∙ sym y.1.1)
-by_answer K n b u v (Err d) s p q e all =
-    let none : (x : List ℕ) → WithinTwoBytes K n b x → ⊥ = λ x near. let o = (p.mends all x near).1 in not_both (Err d) o.0 d o.1 refl in
-    ((p.lost e all none).0 ∙ sym (q.lost e all none).0, (p.lost e all none).1 ∙ sym (q.lost e all none).1)
+by_answer K n b u v (Err d) s p q e all = grind (arith, common_steps)
 
 pub mended_bytes_one_way : {F : Type 0} → MendedBytesOneWay F
 mended_bytes_one_way K n b u v r s p q =
     elim (ℕ_discrete (length b) n) [
-      | no ne ↦ ((p.wrong_length ne).0 ∙ sym (q.wrong_length ne).0, (p.wrong_length ne).1 ∙ sym (q.wrong_length ne).1)
+      | no ne ↦ let x = p.wrong_length ne in let y = q.wrong_length ne in (x.0 ∙ sym y.0, x.1 ∙ sym y.1)
       | yes e ↦ elim (some_wide K b) [
-        | inl f ↦ ((p.too_wide e f.0 f.1).0 ∙ sym (q.too_wide e f.0 f.1).0, (p.too_wide e f.0 f.1).1 ∙ sym (q.too_wide e f.0 f.1).1)
+        | inl f ↦ let x = p.too_wide e f.0 f.1 in let y = q.too_wide e f.0 f.1 in (x.0 ∙ sym y.0, x.1 ∙ sym y.1)
         | inr all ↦ by_answer K n b u v r s p q e all
       ]
     ]

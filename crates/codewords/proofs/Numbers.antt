@@ -1,23 +1,11 @@
 -- Words and the numbers of their symbols.
-use Rattle.std.proofs.Common.{◌≡◌, ℕ, suc, ◌+◌, ◌<◌, ◌≤◌, List, [], ◌∷◌, ◌++◌, map, length, get_or, take, set, sym, refl, ap, ◌∙◌, subst, ap₂, arith}
+use Rattle.std.proofs.Common.{◌≡◌, ℕ, suc, ◌<◌, ◌≤◌, List, [], ◌∷◌, map, length, get_or, take, sym, refl, ap, ◌∙◌, subst, ap₂, arith}
 use native.Mathlib.Decide.{ℕ_discrete}
-use Rattle.std.proofs.lemmas.List.{take_more, take_more_set, map_push, get_or-take, get_or-map, length-take-le}
+use Rattle.std.proofs.lemmas.List.{get_or-take, get_or-map, length-take-le}
 use Rattle.galois.specs.Field.{Arithmetic, Laws}
 use Rattle.reed_solomon.specs.Code.{differing_from}
 
 module _ {X : Type 0} (f : X → ℕ) where
-  -- one symbol more is read, or written
-  pub read_more : (word : List X) (bytes : List ℕ) (i : ℕ) (x : X) → i < length word → i < length bytes →
-      map f (take i word) ≡ take i bytes → f x ≡ get_or bytes i 0 → map f (take (i + 1) (set word i x)) ≡ take (i + 1) bytes
-  read_more word bytes i x hw hb before e =
-      ap (map f) (take_more_set word i x hw) ∙ map_push f (take i word) x ∙ (λ j. before j ++ (e j ∷ [])) ∙ sym (take_more bytes i 0 hb)
-
-  pub write_more : (word : List X) (bytes : List ℕ) (i : ℕ) (x : X) (b : ℕ) → i < length word → i < length bytes →
-      take i bytes ≡ map f (take i word) → x ≡ get_or word i x → b ≡ f x → take (i + 1) (set bytes i b) ≡ map f (take (i + 1) word)
-  write_more word bytes i x b hw hb before read e =
-      take_more_set bytes i b hb ∙ (λ j. before j ++ (e j ∷ [])) ∙ sym (map_push f (take i word) x)
-      ∙ ap (λ y. map f (take i word ++ (y ∷ []))) read ∙ ap (map f) (sym (take_more word i x hw))
-
   -- words differ where their numbers do
   pub differing_numbers : (o : ℕ) (u w : List X) → differing_from (λ b. b) o (map f u) (map f w) ≡ differing_from f o u w
   unfolding differing_from

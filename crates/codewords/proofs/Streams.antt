@@ -1,8 +1,8 @@
 -- Lines of a stream.
-use Rattle.std.proofs.Common.{◌≡◌, ℕ, ◌+◌, ◌/◌, ◌%◌, ◌^◌, ◌<◌, min, List, [], ◌++◌, length, take, drop, sym, refl, ap, ◌∙◌, subst, append_assoc, append-nil, add-zero, mod-lt, mod-eq_of_lt, arith, lit<, length-append, length-drop, take-append-drop}
+use Rattle.std.proofs.Common.{◌≡◌, ℕ, ◌+◌, ◌/◌, ◌%◌, ◌^◌, ◌<◌, min, List, [], ◌++◌, length, sym, refl, ap, ◌∙◌, subst, append_assoc, append-nil, add-zero, mod-lt, mod-eq_of_lt, arith, lit<, length-append}
 use native.Mathlib.Decide.{dec_lt}
 use native.Mathlib.Nat.{mod-add-mod}
-use Rattle.std.proofs.lemmas.List.{take_all, length-take-le}
+use Rattle.std.proofs.lemmas.List.{nil_from_length}
 use Rattle.codewords.specs.Verdicts.{Tells, Lines, none, last, block, LinesJoin, next_ordinal}
 
 -- no bytes have no lines
@@ -11,20 +11,16 @@ lines_none o b t size (none p) = refl
 lines_none o b t size (last p d line some few tells) = absurd (omega arith)
 lines_none o b t size (block p d rest line text whole tells lines) = absurd (omega (arith, length-append d rest))
 
--- one piece of at most 224 bytes, and then the lines of what is left
-pub lines_more : (o n : ℕ) (b line text : List ℕ) → 0 < length b → n ≡ min (length b) 224 → Tells o (take n b) line →
-    Lines (next_ordinal o) (drop n b) text → Lines o b (line ++ text)
-lines_more o n b line text some cut tells rest =
+-- one chunk of at most 224 bytes, and then the lines of what is left
+pub lines_more : (o : ℕ) (b rest line text : List ℕ) → 0 < length (b ++ rest) → length b ≡ min 224 (length (b ++ rest)) → Tells o b line →
+    Lines (next_ordinal o) rest text → Lines o (b ++ rest) (line ++ text)
+lines_more o b rest line text some cut tells lines =
     elim (dec_lt (length b) 224) [
       | yes few ↦
-          let all : n ≡ length b = omega (arith, cut) in
-          let ended : text ≡ [] = lines_none (next_ordinal o) (drop n b) text (length-drop n b ∙ omega arith) rest in
-          subst (λ t. Lines o b t) (sym (ap (λ t. line ++ t) ended ∙ append-nil line))
-          (last o b line (omega arith) few (subst (λ d. Tells o d line) (take_all n b (omega arith)) tells))
-      | no many ↦
-          let whole : n ≡ 224 = omega (arith, cut) in
-          subst (λ d. Lines o d (line ++ text)) (take-append-drop n b)
-          (block o (take n b) (drop n b) line text (length-take-le n b (omega arith) ∙ whole) tells rest)
+          let none : length rest ≡ 0 = omega (arith, length-append b rest, cut) in
+          rw (nil_from_length rest none, lines_none (next_ordinal o) rest text none lines, append-nil b, append-nil line)
+          (last o b line (omega (arith, length-append b rest, cut)) few tells)
+      | no many ↦ block o b rest line text (omega (arith, cut)) tells lines
     ]
 
 pub lines_join : LinesJoin

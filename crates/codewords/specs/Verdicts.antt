@@ -1,5 +1,6 @@
 -- What is said of a coded block, and the line that says it.
 use Rattle.std.specs.Prelude.{◌≡◌, ℕ, ◌+◌, ◌/◌, ◌%◌, ◌^◌, ◌<◌, ◌≤◌, List, [], ◌∷◌, ◌++◌, length, codes, decimal}
+use Rattle.std.specs.List.{join_with_byte}
 use Rattle.galois.specs.Fields.{gf256}
 use Rattle.codewords.specs.Bytes.{WithinTwoBytes, differing_bytes}
 use Rattle.codewords.specs.declared.verdict.Verdict.{Verdict}
@@ -40,6 +41,10 @@ verdict_fields (MendedOne place) = codes "mended" ∷ decimal place ∷ []
 verdict_fields (MendedTwo first second) = codes "mended" ∷ decimal first ∷ decimal second ∷ []
 verdict_fields Lost = codes "lost" ∷ []
 verdict_fields (Short bytes) = codes "short" ∷ decimal bytes ∷ []
+
+-- The same with one space between them.
+abbrev pub verdict_words : Verdict → List ℕ
+verdict_words verdict = join_with_byte 32 (verdict_fields verdict)
 
 -- The line of a verdict.
 abbrev pub verdict_text : ℕ → Verdict → List ℕ

@@ -21,11 +21,7 @@ const DATA: usize = 220;
 pub fn mend_block(block: &mut [u8]) -> Result<MendRecord, Denial>
     ensures { MendedBytes gf256 224 block.old block.new result }
 {
-    if block.len() != BLOCK {
-        return Err(Denial::new(Reason::Length, Layer::Code, block.len(), 0));
-    }
-    let mut word = [<Gf256 as galois::Field>::zero(); BLOCK];
-    mend_bytes(block, &mut word)
+    mend_bytes(block, &mut [Gf256::zero(); BLOCK])
 }
 
 /// Makes the coded block of a basic block: its 219 bytes, the reserved byte 0 and four check bytes. Refused, not a byte is
@@ -33,16 +29,13 @@ pub fn mend_block(block: &mut [u8]) -> Result<MendRecord, Denial>
 pub fn make_block(basic: &[u8], coded: &mut [u8]) -> Result<(), Denial>
     ensures { BlockMade basic.now coded.old coded.new result }
 {
+    // A test of its own, since what `make_bytes` measures has the reserved byte too.
     if basic.len() != BASIC {
         return Err(Denial::new(Reason::Length, Layer::Field, basic.len(), 0));
     }
-    if coded.len() != BLOCK {
-        return Err(Denial::new(Reason::Length, Layer::Code, coded.len(), 0));
-    }
-    let mut data = [0u8; DATA];
+    let mut data = [0; DATA];
     data[..BASIC].copy_from_slice(basic);
-    let mut word = [<Gf256 as galois::Field>::zero(); DATA];
-    make_bytes(&data, &mut word, coded)
+    make_bytes(&data, &mut [Gf256::zero(); DATA], coded)
 }
 
 /// Every basic block has a coded block, and no other.

@@ -1,11 +1,12 @@
 //! Verdicts on blocks, and their lines.
-ghost use Rattle.std.specs.Prelude.{◌≡◌, IfOk, string_bytes};
-ghost use Rattle.codewords.specs.Verdicts.{Judged, JudgedOneWay, Lines, LinesJoin, Tells, verdict_text, by_places};
+ghost use Rattle.std.specs.Prelude.{◌≡◌, Some, IfOk, string_bytes};
+ghost use Rattle.codewords.specs.Verdicts.{Judged, JudgedOneWay, Lines, LinesJoin, Tells, by_places, verdict_words};
 ghost use Rattle.codec.specs.Mend.{places};
 
 use crate::block::{BLOCK, mend_block};
 use codec::MendRecord;
 use std::alloc::{AllocError, Global};
+use std::fmt;
 
 /// What became of a block.
 #[derive(Clone, Copy, PartialEq, Eq, Debug)]
@@ -22,14 +23,30 @@ pub enum Verdict {
     Short(usize),
 }
 
-// The verdict on a block that was mended.
-fn mended(mends: MendRecord) -> Verdict
-    ensures { result ≡ by_places (places mends) }
-{
-    match mends.count() {
-        0 => Verdict::Clean,
-        1 => Verdict::MendedOne(mends.first()),
-        _ => Verdict::MendedTwo(mends.first(), mends.second()),
+impl From<MendRecord> for Verdict {
+    ghost from_gives = { λ mends verdict. verdict ≡ by_places (places mends) };
+
+    fn from(mends: MendRecord) -> Verdict {
+        match mends.count() {
+            0 => Verdict::Clean,
+            1 => Verdict::MendedOne(mends.first()),
+            _ => Verdict::MendedTwo(mends.first(), mends.second()),
+        }
+    }
+}
+
+// The fields of a line after the ordinal.
+impl fmt::Display for Verdict {
+    ghost output = { λ verdict. Some (verdict_words verdict) };
+
+    fn fmt<W: fmt::Write>(&self, f: &mut fmt::Formatter<W>) -> fmt::Result {
+        match self {
+            Verdict::Clean => write!(f, "clean"),
+            Verdict::MendedOne(place) => write!(f, "mended {place}"),
+            Verdict::MendedTwo(first, second) => write!(f, "mended {first} {second}"),
+            Verdict::Lost => write!(f, "lost"),
+            Verdict::Short(bytes) => write!(f, "short {bytes}"),
+        }
     }
 }
 
@@ -37,54 +54,36 @@ fn mended(mends: MendRecord) -> Verdict
 pub fn judge(block: &[u8]) -> Verdict
     ensures { Judged block.now result }
 {
-    if block.len() != BLOCK {
+    let Ok(mut copy) = <[u8; BLOCK]>::try_from(block) else {
         return Verdict::Short(block.len());
-    }
-    let mut copy = [0u8; BLOCK];
-    copy.copy_from_slice(block);
+    };
     match mend_block(&mut copy) {
-        Ok(mends) => mended(mends),
+        Ok(mends) => mends.into(),
         Err(_) => Verdict::Lost,
-    }
-}
-
-// The line of a verdict.
-fn line(heap: Global, ordinal: u64, verdict: Verdict) -> Result<String, AllocError>
-    ensures { IfOk result (λ s. string_bytes s ≡ verdict_text ordinal verdict) }
-{
-    match verdict {
-        Verdict::Clean => format!(in heap; "{ordinal} clean\n"),
-        Verdict::MendedOne(place) => format!(in heap; "{ordinal} mended {place}\n"),
-        Verdict::MendedTwo(first, second) => format!(in heap;
-            "{ordinal} mended {first} {second}\n"
-        ),
-        Verdict::Lost => format!(in heap; "{ordinal} lost\n"),
-        Verdict::Short(bytes) => format!(in heap; "{ordinal} short {bytes}\n"),
     }
 }
 
 /// The line that tells the verdict on a block: its ordinal, the verdict and the places that were mended, with one space between
 /// fields and byte 10 at the end.
-pub fn verdict_line(heap: Global, ordinal: u64, block: &[u8]) -> Result<String, AllocError>
+pub fn verdict_line(alloc: Global, ordinal: u64, block: &[u8]) -> Result<String, AllocError>
     ensures { IfOk result (λ s. Tells ordinal block.now (string_bytes s)) }
 {
-    line(heap, ordinal, judge(block))
+    let verdict = judge(block);
+    format!(in alloc; "{ordinal} {verdict}\n")
 }
 
 /// The lines of the blocks that the bytes are cut into, in their order, with ordinals from `first` on; bytes that are left at the end
 /// have a line that says `short`.
-pub fn verdict_lines(heap: Global, first: u64, bytes: &[u8]) -> Result<String, AllocError>
+pub fn verdict_lines(alloc: Global, first: u64, bytes: &[u8]) -> Result<String, AllocError>
     ensures { IfOk result (λ s. Lines first bytes.now (string_bytes s)) }
 {
-    let mut text = String::new(heap);
+    let mut text = String::new(alloc);
     let mut ordinal = first;
-    let mut rest = bytes;
-    while !rest.is_empty() {
-        let (block, after) = rest.split_at(rest.len().min(BLOCK));
-        let line = verdict_line(heap, ordinal, block)?;
+    for block in bytes.chunks(BLOCK) {
+        let line = verdict_line(alloc, ordinal, block)?;
         text.push_str(line.as_str())?;
+        // By hand, since a range would end where ordinals wrap.
         ordinal = ordinal.wrapping_add(1);
-        rest = after;
     }
     Ok(text)
 }

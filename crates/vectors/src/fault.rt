@@ -4,11 +4,11 @@ use std::alloc::AllocError;
 #[derive(Clone, Copy, PartialEq, Eq, Debug)]
 pub enum Fault {
     Malformed,
-    Memory,
+    Memory(AllocError),
 }
 
 impl From<AllocError> for Fault {
-    fn from(_error: AllocError) -> Fault {
-        Fault::Memory
+    fn from(error: AllocError) -> Fault {
+        Fault::Memory(error)
     }
 }

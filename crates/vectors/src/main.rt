@@ -3,77 +3,41 @@
 
 mod cases;
 mod fault;
+mod kind;
 mod text;
 mod verdict;
 
-use cases::{Kind, case_agrees};
+use cases::case_agrees;
 use fault::Fault;
-use std::alloc::AllocError;
+use kind::Kind;
 use std::io;
 use std::io::{BufRead, BufReader};
 
-// How many cases of each kind agree.
-#[derive(Drop)]
-struct Tally {
-    checks: u64,
-    label: u64,
-    block: u64,
-    digits: u64,
-}
-
-impl Tally {
-    fn new() -> Tally {
-        Tally {
-            checks: 0,
-            label: 0,
-            block: 0,
-            digits: 0,
-        }
-    }
-
-    fn count(&mut self, kind: Kind) {
-        let counter = match kind {
-            Kind::Checks => &mut self.checks,
-            Kind::Label => &mut self.label,
-            Kind::Block => &mut self.block,
-            Kind::Digits => &mut self.digits,
-        };
-        *counter = counter.saturating_add(1);
-    }
-
-    fn tell(&self, rt: &impl Print) -> io::Result<()> {
-        let Tally {
-            checks,
-            label,
-            block,
-            digits,
-        } = self;
-        println!(rt; "checks {checks} agree")?;
-        println!(rt; "label {label} agree")?;
-        println!(rt; "block {block} agree")?;
-        println!(rt; "digits {digits} agree")
-    }
-}
+// How many cases agree, of each kind in the order of `Kind::ALL`.
+type Tally = [u64; Kind::ALL.len()];
 
 // Runs the case of a line. One that disagrees is told, and so is a line that is no case.
 fn run_line(rt: &HostRuntime, tally: &mut Tally, number: u64, line: &str) -> io::Result<()> {
     match case_agrees(rt.alloc(), number, line) {
         Ok((kind, true)) => {
-            tally.count(kind);
+            let counter = &mut tally[kind as usize];
+            *counter = counter.saturating_add(1);
             Ok(())
         }
         Ok((kind, false)) => println!(rt; "line {number}: {kind} disagrees"),
         Err(Fault::Malformed) => println!(rt; "line {number}: malformed"),
-        Err(Fault::Memory) => Err(AllocError.into()),
+        Err(Fault::Memory(error)) => Err(error.into()),
     }
 }
 
 fn main(rt: HostRuntime) -> io::Result<()> {
-    let mut tally = Tally::new();
-    let mut number = 0u64;
-    for line in BufReader::new(rt.alloc(), rt.stdin())?.lines(rt.alloc()) {
-        number = number.saturating_add(1);
+    let mut tally = [0; Kind::ALL.len()];
+    let input = BufReader::new(rt.alloc(), rt.stdin())?;
+    for (number, line) in (1..).zip(input.lines(rt.alloc())) {
         run_line(&rt, &mut tally, number, line?.as_str())?;
     }
-    tally.tell(&rt)
+    for (kind, count) in Kind::ALL.iter().zip(&tally) {
+        println!(rt; "{kind} {count} agree")?;
+    }
+    Ok(())
 }

@@ -14,29 +14,28 @@ fn digit(character: u8) -> Result<u8, Fault> {
     }
 }
 
-// Reads one hexadecimal digit for each of `digits`.
-pub fn read_digits(text: &str, digits: &mut [u8]) -> Result<(), Fault> {
+// Reads one hexadecimal digit for each number.
+pub fn read_digits<const N: usize>(text: &str) -> Result<[u8; N], Fault> {
     let characters = text.as_bytes();
-    if characters.len() != digits.len() {
+    if characters.len() != N {
         return Err(Fault::Malformed);
     }
+    let mut digits = [0; N];
     for (value, character) in digits.iter_mut().zip(characters) {
         *value = digit(*character)?;
     }
-    Ok(())
+    Ok(digits)
 }
 
-// Reads two hexadecimal digits for each of `bytes`.
-pub fn read_bytes(text: &str, bytes: &mut [u8]) -> Result<(), Fault> {
-    let characters = text.as_bytes();
-    if characters.len() % 2 != 0 || characters.len() / 2 != bytes.len() {
+// Reads two hexadecimal digits for each byte.
+pub fn read_bytes<const N: usize>(text: &str) -> Result<[u8; N], Fault> {
+    let (pairs, rest) = text.as_bytes().as_chunks::<2>();
+    if pairs.len() != N || !rest.is_empty() {
         return Err(Fault::Malformed);
     }
-    for (byte, pair) in bytes.iter_mut().zip(characters.chunks_exact(2)) {
-        let [high, low] = pair else {
-            return Err(Fault::Malformed);
-        };
+    let mut bytes = [0; N];
+    for (byte, [high, low]) in bytes.iter_mut().zip(pairs) {
         *byte = digit(*high)? << 4 | digit(*low)?;
     }
-    Ok(())
+    Ok(bytes)
 }

@@ -2,7 +2,7 @@
 use codec::{check_symbols, mend};
 use codewords::{make_block, make_label, mend_block, mend_label};
 use denial::{Denial, Layer, Reason};
-use galois::Field;
+use galois::{Field, Gf16};
 use std::test::Fail;
 
 fn length(bytes: usize) -> Denial {
@@ -16,24 +16,24 @@ fn wide(place: usize) -> Denial {
 #[test]
 fn blocks_of_another_length(rt: HostRuntime) {
     let mut short = [7; 223];
-    assert!(rt; mend_block(&mut short) == Err(length(223)));
+    assert_eq!(rt; mend_block(&mut short), Err(length(223)));
     assert_eq!(rt; short, [7; 223]);
     let mut long = [7; 225];
-    assert!(rt; mend_block(&mut long) == Err(length(225)));
+    assert_eq!(rt; mend_block(&mut long), Err(length(225)));
     assert_eq!(rt; long, [7; 225]);
 }
 
 #[test]
 fn a_label_is_measured_before_its_digits(rt: HostRuntime) {
     let mut label = [16; 14];
-    assert!(rt; mend_label(&mut label) == Err(length(14)));
+    assert_eq!(rt; mend_label(&mut label), Err(length(14)));
     assert_eq!(rt; label, [16; 14]);
 }
 
 #[test]
 fn the_first_wide_digit_is_named(rt: HostRuntime) {
     let mut label = [0, 0, 0, 16, 0, 0, 0, 0, 255, 0, 0, 0, 0, 0, 0];
-    assert!(rt; mend_label(&mut label) == Err(wide(3)));
+    assert_eq!(rt; mend_label(&mut label), Err(wide(3)));
     assert_eq!(rt; label, [0, 0, 0, 16, 0, 0, 0, 0, 255, 0, 0, 0, 0, 0, 0]);
 }
 
@@ -72,17 +72,17 @@ fn a_block_is_made_in_224_bytes(rt: HostRuntime) {
 
 #[test]
 fn lengths_that_the_code_has_not(rt: HostRuntime) {
-    let mut four = [<galois::Gf16 as galois::Field>::zero(); 4];
+    let mut four = [Gf16::zero(); 4];
     assert!(rt; mend(&mut four).is_none());
-    let mut sixteen = [<galois::Gf16 as galois::Field>::zero(); 16];
+    let mut sixteen = [Gf16::zero(); 16];
     assert!(rt; mend(&mut sixteen).is_none());
-    let twelve = [<galois::Gf16 as galois::Field>::zero(); 12];
+    let twelve = [Gf16::zero(); 12];
     assert!(rt; check_symbols(&twelve).is_none());
 }
 
 #[test]
 fn a_denial_in_words(rt: HostRuntime) -> Result<(), Fail> {
     let text = format!(in rt.alloc(); "{}", wide(3))?;
-    assert!(rt; text.as_str() == "3 wide code 0 3");
+    assert_eq!(rt; text.as_str(), "3 wide code 0 3");
     Ok(())
 }

@@ -1,26 +1,28 @@
-use Rattle.std.proofs.Common.{Ok, Err, sym, subst, arith}
+use Rattle.std.proofs.Common.{◌≡◌, ℕ, List, length, Ok, Err, arith}
+use Rattle.std.proofs.lemmas.Grind.{common_steps}
 use Rattle.galois.specs.Fields.{gf256}
+use Rattle.codec.specs.Mend.{places}
+use Rattle.codec.specs.declared.record.MendRecord.{MendRecord}
+use Rattle.denial.specs.declared.Denial.{Denial}
 use Rattle.codewords.specs.Bytes.{AllNumbers, MendedBytes}
-use Rattle.codewords.specs.Verdicts.{Judged}
-use Rattle.codewords.proofs.Telling.{judged_short, judged_mended, judged_lost}
+use Rattle.codewords.specs.Verdicts.{Judged, by_places}
+use Rattle.codewords.specs.declared.verdict.Verdict.TheVariants.{Lost}
 use Rattle.codewords.proofs.verdict.judge.Goals as goal
 
-pub returns-then-block-ne-BLOCK : goal.returns-then-block-ne-BLOCK
-returns-then-block-ne-BLOCK c = judged_short c.args.block.now c.if-block-ne-BLOCK.true
+module _ (b after : List ℕ) (size : length b ≡ 224) (all : AllNumbers gf256 b) where
+  mended : (m : MendRecord) → MendedBytes gf256 224 b after (Ok m) → Judged b (by_places (places m))
+  mended m told = grind (arith, common_steps)
 
-pub returns-in-Ok : goal.returns-in-Ok
-returns-in-Ok c =
-    let b = c.args.block.now in
-    let all : AllNumbers gf256 b = λ i h. omega (arith, c.type_inv.block i) in
-    let after = c.mend_block.new.block in
-    subst (λ r. Judged b r) (sym c.mended.ensures)
-    (judged_mended b after c.if-block-ne-BLOCK.false all c.in-Ok.mends
-    (subst (λ x. MendedBytes gf256 224 x after (Ok c.in-Ok.mends)) c.copy_from_slice.ensures.after c.in-Ok.ensures))
+  lost : (d : Denial) → MendedBytes gf256 224 b after (Err d) → Judged b Lost
+  lost d told = grind (arith, common_steps)
+
+pub returns-in-Ok-mend_block : goal.returns-in-Ok-mend_block
+returns-in-Ok-mend_block c =
+    let whole = c.in-Ok.ensures.1 in
+    rw c.into.ensures
+    (mended c.args.block.now _ whole.long (λ i h. omega (arith, c.type_inv.block i)) _ (rw whole.same at c.in-Ok-mend_block.ensures))
 
 pub returns-in-Err : goal.returns-in-Err
 returns-in-Err c =
-    let b = c.args.block.now in
-    let all : AllNumbers gf256 b = λ i h. omega (arith, c.type_inv.block i) in
-    let after = c.mend_block.new.block in
-    judged_lost b after c.if-block-ne-BLOCK.false all c.in-Err.field-0
-    (subst (λ x. MendedBytes gf256 224 x after (Err c.in-Err.field-0)) c.copy_from_slice.ensures.after c.in-Err.ensures)
+    let whole = c.in-Ok.ensures.1 in
+    lost c.args.block.now _ whole.long (λ i h. omega (arith, c.type_inv.block i)) _ (rw whole.same at c.in-Err.ensures)
