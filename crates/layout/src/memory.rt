@@ -24,7 +24,7 @@ pub fn clear_marks(memory: &mut [u8], size: usize, from: usize)
 
 /// The memory by its length; refused with `memory` where it has another.
 pub fn whole<const LENGTH: usize>(memory: &[u8]) -> Result<&[u8; LENGTH], Denial>
-    ensures { MatchResult result (λ all. all.now ≡ memory.now) (λ denial. (length memory.now ≢ LENGTH) × (denial ≡ unfit memory.now)) }
+    ensures { MatchResult result (λ all. (length memory.now ≡ LENGTH) × (all.now ≡ memory.now)) (λ denial. (length memory.now ≢ LENGTH) × (denial ≡ unfit memory.now)) }
 {
     memory.try_into().map_err(|_| Denial::new(Reason::Memory, Layer::Field, memory.len(), 0))
 }
