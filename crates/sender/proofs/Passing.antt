@@ -54,22 +54,23 @@ byte_is coded p c j q hc hj e =
     let d : q % 448 / 2 ≡ j = omega arith in
     rw (a, b, d)
 
--- A byte of each block of a packet.
-pub packet_more : (coded : Blocks) (p j : ℕ) (m x y z : Meaning) (even odd : List ℕ) → j < 224 → coded p 1 ≡ even → coded p 0 ≡ odd →
+-- A byte of each block of a packet, a and b, at place n of the blocks.
+pub packet_more : (coded : Blocks) (p j n a b : ℕ) (m x y z : Meaning) (even odd : List ℕ) → (j < 224) × (n ≡ j) × (a ≡ get_or even j 0) × (b ≡ get_or odd j 0) →
+    coded p 1 ≡ even → coded p 0 ≡ odd →
     x ≡ with_stream coded (448 * p + 2 * j) m →
-    y ≡ with_word ((448 * p + 2 * j) / 1436) (2 + (448 * p + 2 * j) % 1436) (sent_word (get_or even j 0)) x →
-    z ≡ with_word ((448 * p + 2 * j + 1) / 1436) (2 + (448 * p + 2 * j + 1) % 1436) (sent_word (get_or odd j 0)) y →
+    y ≡ with_word ((448 * p + 2 * n) / 1436) (2 + (448 * p + 2 * n) % 1436) (sent_word a) x →
+    z ≡ with_word ((448 * p + 2 * n + 1) / 1436) (2 + (448 * p + 2 * n + 1) % 1436) (sent_word b) y →
     z ≡ with_stream coded (448 * p + 2 * (j + 1)) m
-packet_more coded p j m x y z even odd hj he ho hx hy hz =
+packet_more coded p j n a b m x y z even odd (hj, hn, ha, hb) he ho hx hy hz =
     let q = 448 * p + 2 * j in
     let at-even : sent_word (get_or even j 0) ≡ sent_word (stream_byte coded q) =
     ap (λ v. sent_word (get_or v j 0)) (sym he) ∙ ap sent_word (sym (byte_is coded p 1 j q (omega arith) hj (omega arith))) in
     let at-odd : sent_word (get_or odd j 0) ≡ sent_word (stream_byte coded (q + 1)) =
     ap (λ v. sent_word (get_or v j 0)) (sym ho) ∙ ap sent_word (sym (byte_is coded p 0 j (q + 1) (omega arith) hj (omega arith))) in
     let y-is : y ≡ with_stream coded (q + 1) m =
-    hy ∙ ap (with_word (q / 1436) (2 + q % 1436) (sent_word (get_or even j 0))) hx ∙ stream_more coded q m _ at-even in
+    (rw (hn, ha) at hy) ∙ ap (with_word (q / 1436) (2 + q % 1436) (sent_word (get_or even j 0))) hx ∙ stream_more coded q m _ at-even in
     let next : q + 1 + 1 ≡ 448 * p + 2 * (j + 1) = omega arith in
-    hz ∙ ap (with_word ((q + 1) / 1436) (2 + (q + 1) % 1436) (sent_word (get_or odd j 0))) y-is ∙ stream_more coded (q + 1) m _ at-odd
+    (rw (hn, hb) at hz) ∙ ap (with_word ((q + 1) / 1436) (2 + (q + 1) % 1436) (sent_word (get_or odd j 0))) y-is ∙ stream_more coded (q + 1) m _ at-odd
     ∙ ap (λ k. with_stream coded k m) next
 
 -- The three passes together write the field.

@@ -7,5 +7,6 @@ mod passes;
 mod searches;
 mod sender;
 
-pub use memory::{BASIC, BLOCKS, MEMORY, loads_stay};
+pub use layout::BLOCKS;
+pub use memory::{BASIC, MEMORY, loads_stay};
 pub use sender::Sender;
