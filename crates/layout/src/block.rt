@@ -11,8 +11,8 @@ const LAST_PACKET: usize = 677;
 
 const LAST_CHANNEL: usize = 1;
 
-// Bytes to a packet.
-const PACKET: usize = 448;
+/// Bytes to a packet.
+pub const PACKET: usize = 448;
 
 /// How many blocks a field has.
 pub const BLOCKS: usize = 1356;

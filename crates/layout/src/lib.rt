@@ -7,8 +7,10 @@ mod memory;
 mod places;
 mod words;
 
-pub use block::{BLOCKS, BlockName};
+pub use block::{BLOCKS, BlockName, PACKET};
 pub use field::{FILLER, TYPE_WORD, field_worded, first_found, mark_word};
 pub use memory::{clear, clear_marks, whole};
-pub use places::{CodedByte, coded_byte_at, place_of, questions_undo, second_line, stream_covered};
+pub use places::{
+    CodedByte, LINE, LINES, coded_byte_at, place_of, questions_undo, second_line, stream_covered,
+};
 pub use words::{received_byte, sent_word, words_apart};

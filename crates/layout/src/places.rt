@@ -2,7 +2,7 @@
 ghost use Rattle.std.specs.Prelude.{◌≡◌, IfOk};
 ghost use Rattle.layout.specs.Places.{Crosses, placed, QuestionsUndo, seconded, Stands, StreamCovered};
 
-use crate::block::BlockName;
+use crate::block::{BlockName, PACKET};
 use denial::{Denial, Reason};
 
 /// A byte of a coded block.
@@ -16,14 +16,13 @@ pub struct CodedByte {
 // The last byte of a block.
 const LAST_BYTE: usize = 223;
 
-// Bytes to a packet, and stream bytes to a line.
-const PACKET: usize = 448;
+/// How many lines a field has.
+pub const LINES: usize = 212;
 
-const LINE: usize = 1436;
+/// Stream bytes to a line.
+pub const LINE: usize = 1436;
 
-// The last line of a field, and the bytes of all packets.
-const LAST_LINE: usize = 211;
-
+// The bytes of all packets.
 const STREAM: usize = 678 * PACKET;
 
 /// The line and word of a coded byte.
@@ -42,7 +41,7 @@ pub fn place_of(packet: usize, channel: usize, byte: usize) -> Result<(usize, us
 pub fn coded_byte_at(line: usize, word: usize) -> Option<CodedByte>
     ensures { Stands line word result }
 {
-    if line > LAST_LINE || word < 2 || word >= 2 + LINE {
+    if line >= LINES || word < 2 || word >= 2 + LINE {
         return None;
     }
     let q = LINE * line + (word - 2);
