@@ -1,6 +1,7 @@
 //! Mapping: the words of a whole field, on any carrier that can be written.
-ghost use Rattle.std.specs.Prelude.{◌≡◌, ◌+◌, ◌*◌, ◌≤◌};
+ghost use Rattle.std.specs.Prelude.{◌≡◌, ℕ, ◌+◌, ◌*◌, ◌<◌, ◌≤◌, List, take, drop};
 ghost use Rattle.carriers.specs.Meaning.{Meaning};
+ghost use Rattle.codewords.specs.Blocks.{BlockOf};
 ghost use Rattle.layout.specs.Mapped.{Blocks};
 ghost use Rattle.sender.specs.Mapping.{CodedBlocks, map_at, MappedOnto, with_field};
 ghost use Rattle.sender.specs.Passes.{with_stream};
@@ -11,10 +12,24 @@ use crate::searches::{first_absent, first_unloaded};
 use carriers::{Carrier, WritableCarrier};
 use codewords::{BLOCK, make_block};
 use denial::{Denial, Layer, Reason};
-use layout::whole;
+use layout::{BLOCKS, whole};
 
 // How many packets a field has.
-const PACKETS: usize = 678;
+const PACKETS: usize = BLOCKS / 2;
+
+// Codes the block with so many before it in the stream.
+fn coded_block(memory: &[u8; MEMORY], ordinal: usize) -> [u8; BLOCK]
+    requires { ordinal < 1356 }
+    ensures { (block : List ℕ) → BlockOf (take 219 (drop (219 * ordinal) memory.now)) block → block ≡ result }
+{
+    let mut coded = [0; BLOCK];
+    make_block(
+        &memory[BASIC * ordinal..BASIC * ordinal + BASIC],
+        &mut coded,
+    )
+    .unwrap();
+    coded
+}
 
 // Codes the two blocks of a packet and writes it behind those before it.
 fn map_packet<C: WritableCarrier>(
@@ -27,12 +42,8 @@ fn map_packet<C: WritableCarrier>(
     ensures beside { C.WritableCarrier.rest lines.new.carrier.now ≡ C.WritableCarrier.rest lines.old.carrier.now }
     ensures same { lines.new.carrier.ghost_name ≡ lines.old.carrier.ghost_name }
 {
-    let mut even = [0u8; BLOCK];
-    let mut odd = [0u8; BLOCK];
-    let start = 2 * BASIC * packet;
-    let middle = start + BASIC;
-    make_block(&memory[start..middle], &mut even).unwrap();
-    make_block(&memory[middle..middle + BASIC], &mut odd).unwrap();
+    let even = coded_block(memory, 2 * packet);
+    let odd = coded_block(memory, 2 * packet + 1);
     lines.put_packet(packet, &even, &odd);
 }
 

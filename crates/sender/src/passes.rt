@@ -5,16 +5,9 @@ ghost use Rattle.layout.specs.Mapped.{Blocks};
 ghost use Rattle.layout.specs.Words.{sent_word};
 ghost use Rattle.sender.specs.Passes.{with_edges, with_filling, with_stream, with_word};
 
-use crate::searches::LINES;
 use carriers::{Carrier, WritableCarrier};
-use layout::{FILLER, TYPE_WORD, mark_word, sent_word};
-
-// Stream bytes to a line, and bytes to a packet and to each of its blocks.
-const LINE: usize = 1436;
-
-const PACKET: usize = 448;
-
-const BLOCK: usize = 224;
+use codewords::BLOCK;
+use layout::{FILLER, LINE, LINES, PACKET, TYPE_WORD, mark_word, sent_word};
 
 /// A carrier that has the lines of a field.
 #[derive(Drop)]

@@ -5,10 +5,7 @@ ghost use Rattle.sender.specs.Mapping.{absent, unloaded};
 
 use crate::memory::{MARKS, MEMORY};
 use carriers::Carrier;
-use layout::BlockName;
-
-// How many lines a field has.
-pub(crate) const LINES: usize = 212;
+use layout::{BlockName, LINES};
 
 // The first block in the order of the stream that is not loaded.
 pub(crate) fn first_unloaded(memory: &[u8; MEMORY]) -> Option<BlockName>

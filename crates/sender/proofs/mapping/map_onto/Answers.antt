@@ -1,4 +1,4 @@
-use Rattle.std.proofs.Common.{◌≡◌, sym, ap, ◌∙◌, length, rules, subst}
+use Rattle.std.proofs.Common.{sym, rules, subst}
 use Rattle.sender.specs.Mapping.{CodedBlocks}
 use Rattle.sender.proofs.Blocks.{coded_block}
 use Rattle.sender.proofs.Passing.{lacks_none}

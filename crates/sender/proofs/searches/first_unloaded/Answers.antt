@@ -1,4 +1,4 @@
-use Rattle.std.proofs.Common.{◌≡◌, true, false, eqb, None, Some, ◌∙◌, sym, rules}
+use Rattle.std.proofs.Common.{◌≡◌, true, false, eqb, None, ◌∙◌, sym, rules}
 use borrow.Author.Tests.{tests}
 use Rattle.std.proofs.lemmas.Iterator.{IsFirst-from_position, YieldsList-from_slice}
 use Rattle.sender.specs.Mapping.{unloaded}
