@@ -32,15 +32,10 @@ fn coded_block(memory: &[u8; MEMORY], ordinal: usize) -> [u8; BLOCK]
 }
 
 // Codes the two blocks of a packet and writes it behind those before it.
-fn map_packet<C: WritableCarrier>(
-    memory: &[u8; MEMORY],
-    packet: usize,
-    lines: &mut FieldLines<'_, C>,
-)
+fn map_packet<C: WritableCarrier>(memory: &[u8; MEMORY], packet: usize, lines: &mut FieldLines<C>)
     requires { packet ≤ 677 }
-    ensures after { (coded : Blocks) (m : Meaning) → CodedBlocks memory.now coded → C.Carrier.meaning lines.old.carrier.now ≡ with_stream coded (448 * packet) m → C.Carrier.meaning lines.new.carrier.now ≡ with_stream coded (448 * packet + 448) m }
-    ensures beside { C.WritableCarrier.rest lines.new.carrier.now ≡ C.WritableCarrier.rest lines.old.carrier.now }
-    ensures same { lines.new.carrier.ghost_name ≡ lines.old.carrier.ghost_name }
+    ensures after { (coded : Blocks) (m : Meaning) → CodedBlocks memory.now coded → C.Carrier.meaning lines.old.carrier ≡ with_stream coded (448 * packet) m → C.Carrier.meaning lines.new.carrier ≡ with_stream coded (448 * packet + 448) m }
+    ensures beside { C.WritableCarrier.rest lines.new.carrier ≡ C.WritableCarrier.rest lines.old.carrier }
 {
     let even = coded_block(memory, 2 * packet);
     let odd = coded_block(memory, 2 * packet + 1);
@@ -48,10 +43,9 @@ fn map_packet<C: WritableCarrier>(
 }
 
 // Writes the whole stream.
-fn map_stream<C: WritableCarrier>(memory: &[u8; MEMORY], lines: &mut FieldLines<'_, C>)
-    ensures after { (coded : Blocks) → CodedBlocks memory.now coded → C.Carrier.meaning lines.new.carrier.now ≡ with_stream coded 303744 (C.Carrier.meaning lines.old.carrier.now) }
-    ensures beside { C.WritableCarrier.rest lines.new.carrier.now ≡ C.WritableCarrier.rest lines.old.carrier.now }
-    ensures same { lines.new.carrier.ghost_name ≡ lines.old.carrier.ghost_name }
+fn map_stream<C: WritableCarrier>(memory: &[u8; MEMORY], lines: &mut FieldLines<C>)
+    ensures after { (coded : Blocks) → CodedBlocks memory.now coded → C.Carrier.meaning lines.new.carrier ≡ with_stream coded 303744 (C.Carrier.meaning lines.old.carrier) }
+    ensures beside { C.WritableCarrier.rest lines.new.carrier ≡ C.WritableCarrier.rest lines.old.carrier }
 {
     for packet in 0..PACKETS {
         map_packet(memory, packet, lines);
@@ -59,10 +53,9 @@ fn map_stream<C: WritableCarrier>(memory: &[u8; MEMORY], lines: &mut FieldLines<
 }
 
 // Writes all words of a field.
-fn map_field<C: WritableCarrier>(memory: &[u8; MEMORY], lines: &mut FieldLines<'_, C>)
-    ensures after { (coded : Blocks) → CodedBlocks memory.now coded → C.Carrier.meaning lines.new.carrier.now ≡ with_field coded (C.Carrier.meaning lines.old.carrier.now) }
-    ensures beside { C.WritableCarrier.rest lines.new.carrier.now ≡ C.WritableCarrier.rest lines.old.carrier.now }
-    ensures same { lines.new.carrier.ghost_name ≡ lines.old.carrier.ghost_name }
+fn map_field<C: WritableCarrier>(memory: &[u8; MEMORY], lines: &mut FieldLines<C>)
+    ensures after { (coded : Blocks) → CodedBlocks memory.now coded → C.Carrier.meaning lines.new.carrier ≡ with_field coded (C.Carrier.meaning lines.old.carrier) }
+    ensures beside { C.WritableCarrier.rest lines.new.carrier ≡ C.WritableCarrier.rest lines.old.carrier }
 {
     map_stream(memory, lines);
     lines.put_all_edges();

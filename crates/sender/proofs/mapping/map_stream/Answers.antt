@@ -6,15 +6,14 @@ pub returns-clause-after : goal.returns-clause-after
 returns-clause-after g c =
     λ coded blocks.
     let all : 448 * c.loop-packet.packet ≡ 303744 = omega arith in
-    c.loop-packet.invariant.after coded blocks ∙ ap (λ q. with_stream coded q (g.C.Carrier.meaning c.args.lines.now.carrier.now)) all
+    c.loop-packet.invariant.after coded blocks ∙ ap (λ q. with_stream coded q (g.C.Carrier.meaning c.args.lines.now.carrier)) all
 
 pub loop-packet-preserved : goal.loop-packet-preserved
 loop-packet-preserved g c =
     let inv = c.loop-packet.invariant in
     let one = c.map_packet.ensures in
     let next : 448 * c.loop-packet.packet + 448 ≡ 448 * (c.loop-packet.packet + 1) = omega arith in record {
-      same = one.same ∙ inv.same;
       beside = one.beside ∙ inv.beside;
       after = λ coded blocks.
-          one.after coded _ blocks (inv.after coded blocks) ∙ ap (λ q. with_stream coded q (g.C.Carrier.meaning c.args.lines.now.carrier.now)) next;
+          one.after coded _ blocks (inv.after coded blocks) ∙ ap (λ q. with_stream coded q (g.C.Carrier.meaning c.args.lines.now.carrier)) next;
     }

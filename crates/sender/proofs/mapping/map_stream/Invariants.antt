@@ -6,8 +6,7 @@ use Rattle.sender.proofs.mapping.map_stream.Given as goal
 
 abbrev pub invariant-loop-packet : goal.invariant-loop-packet
 invariant-loop-packet g l = record {
-  same : l.lines.carrier.ghost_name ≡ l.initial.lines.carrier.ghost_name;
-  beside : g.C.WritableCarrier.rest l.lines.carrier.now ≡ g.C.WritableCarrier.rest l.initial.lines.carrier.now;
+  beside : g.C.WritableCarrier.rest l.lines.carrier ≡ g.C.WritableCarrier.rest l.initial.lines.carrier;
   after : (coded : Blocks) → CodedBlocks l.memory coded →
-      g.C.Carrier.meaning l.lines.carrier.now ≡ with_stream coded (448 * l.packet) (g.C.Carrier.meaning l.initial.lines.carrier.now);
+      g.C.Carrier.meaning l.lines.carrier ≡ with_stream coded (448 * l.packet) (g.C.Carrier.meaning l.initial.lines.carrier);
 }

@@ -5,4 +5,4 @@ pub loop-line-preserved : goal.loop-line-preserved
 loop-line-preserved g c =
     let inv = c.loop-line.invariant in
     let one = c.put_edges.ensures in
-    record { same = one.same ∙ inv.same; beside = one.beside ∙ inv.beside; after = one.after _ inv.after }
+    record { beside = one.beside ∙ inv.beside; after = one.after _ inv.after }

@@ -5,7 +5,6 @@ use Rattle.sender.proofs.passes.FieldLines.put_filling.Given as goal
 abbrev pub invariant-loop-word : goal.invariant-loop-word
 invariant-loop-word g l = record {
   behind : 750 ≤ l.word;
-  same : l.self.carrier.ghost_name ≡ l.initial.self.carrier.ghost_name;
-  beside : g.C.WritableCarrier.rest l.self.carrier.now ≡ g.C.WritableCarrier.rest l.initial.self.carrier.now;
-  after : g.C.Carrier.meaning l.self.carrier.now ≡ with_filling l.word (g.C.Carrier.meaning l.initial.self.carrier.now);
+  beside : g.C.WritableCarrier.rest l.self.carrier ≡ g.C.WritableCarrier.rest l.initial.self.carrier;
+  after : g.C.Carrier.meaning l.self.carrier ≡ with_filling l.word (g.C.Carrier.meaning l.initial.self.carrier);
 }

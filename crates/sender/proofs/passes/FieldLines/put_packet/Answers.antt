@@ -20,7 +20,6 @@ loop-j-preserved g c =
     (cc))
     c.loop-j.yielded _ c.loop-j.yielded_by _ c.next.new.self (c.in-Some.j, (c.in-Some.even_byte, c.in-Some.odd_byte)) c.in-Some.is c.next.ensures.steps) in
     record {
-      same = two.same ∙ one.same ∙ inv.same;
       beside = two.beside ∙ one.beside ∙ inv.beside;
       after = λ coded m even odd before.
           packet_more coded c.args.packet (length c.loop-j.yielded) _ _ _ m _ _ _ c.args.even.now c.args.odd.now

@@ -6,9 +6,8 @@ use Rattle.sender.proofs.passes.FieldLines.put_packet.Given as goal
 
 abbrev pub invariant-loop-j : goal.invariant-loop-j
 invariant-loop-j g l = record {
-  same : l.self.carrier.ghost_name ≡ l.initial.self.carrier.ghost_name;
-  beside : g.C.WritableCarrier.rest l.self.carrier.now ≡ g.C.WritableCarrier.rest l.initial.self.carrier.now;
+  beside : g.C.WritableCarrier.rest l.self.carrier ≡ g.C.WritableCarrier.rest l.initial.self.carrier;
   after : (coded : Blocks) (m : Meaning) → coded l.packet 1 ≡ l.even → coded l.packet 0 ≡ l.odd →
-      g.C.Carrier.meaning l.initial.self.carrier.now ≡ with_stream coded (448 * l.packet) m →
-      g.C.Carrier.meaning l.self.carrier.now ≡ with_stream coded (448 * l.packet + 2 * length l.yielded) m;
+      g.C.Carrier.meaning l.initial.self.carrier ≡ with_stream coded (448 * l.packet) m →
+      g.C.Carrier.meaning l.self.carrier ≡ with_stream coded (448 * l.packet + 2 * length l.yielded) m;
 }
