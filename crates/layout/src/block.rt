@@ -14,6 +14,9 @@ const LAST_CHANNEL: usize = 1;
 /// Bytes to a packet.
 pub const PACKET: usize = 448;
 
+/// Bytes to a basic block.
+pub const BASIC: usize = 219;
+
 /// How many blocks a field has.
 pub const BLOCKS: usize = 1356;
 
