@@ -10,10 +10,6 @@ use Rattle.layout.specs.Words.{sent_word}
 use Rattle.sender.specs.Mapping.{absent, with_field}
 use Rattle.sender.specs.Passes.{with_edges, with_filling, with_stream, with_word}
 
--- The stream is at its beginning.
-pub stream_none : (coded : Blocks) (c : Meaning) → with_stream coded 0 c ≡ c
-stream_none coded c = same_meaning refl refl (λ l w. grind (arith, nat_tests))
-
 pub stream_more : (coded : Blocks) (q : ℕ) (c : Meaning) (value : ℕ) → value ≡ sent_word (stream_byte coded q) →
     with_word (q / 1436) (2 + q % 1436) value (with_stream coded q c) ≡ with_stream coded (q + 1) c
 stream_more coded q c value is = same_meaning refl refl (λ l w. at_place l w (cases_Bool (eqb l (q / 1436) && eqb w (2 + q % 1436))))
@@ -28,23 +24,20 @@ stream_more coded q c value is = same_meaning refl refl (λ l w. at_place l w (c
         let same : (leb 2 w && (ltb w 1438 && ltb (1436 * l + (w - 2)) q)) ≡ (leb 2 w && (ltb w 1438 && ltb (1436 * l + (w - 2)) (q + 1))) = grind (arith, nat_tests) in
         rw (e, same)
 
-pub edges_none : (c : Meaning) → with_edges 0 c ≡ c
-edges_none c = same_meaning refl refl (λ l w. grind (arith, nat_tests))
-
-pub edges_more : (n : ℕ) (c : Meaning) →
+edges_are : (n : ℕ) (c : Meaning) →
     with_word n 1439 0x200 (with_word n 1438 0x200 (with_word n 1 (mark_word n) (with_word n 0 0x248 (with_edges n c)))) ≡ with_edges (n + 1) c
-edges_more n c = same_meaning refl refl (λ l w. at_place l w (cases_Bool (eqb l n)))
+edges_are n c = same_meaning refl refl (λ l w. at_place l w (cases_Bool (eqb l n)))
   where
     at_place : (l w : ℕ) → (eqb l n ≡ true) ⊎ (eqb l n ≡ false) →
         (with_word n 1439 0x200 (with_word n 1438 0x200 (with_word n 1 (mark_word n) (with_word n 0 0x248 (with_edges n c))))).word l w ≡ (with_edges (n + 1) c).word l w
     at_place l w (inl e) = grind (arith, nat_tests)
     at_place l w (inr e) = grind (arith, nat_tests)
 
-pub filling_none : (c : Meaning) → with_filling 750 c ≡ c
-filling_none c = same_meaning refl refl (λ l w. grind (arith, nat_tests))
-
-pub filling_more : (k : ℕ) (c : Meaning) → 750 ≤ k → with_word 211 k 0x200 (with_filling k c) ≡ with_filling (k + 1) c
-filling_more k c h = same_meaning refl refl (λ l w. grind (arith, nat_tests))
+-- The four words of line n, one after the other.
+pub edges_more : (n mark : ℕ) (m v w x y z : Meaning) → mark ≡ mark_word n → v ≡ with_edges n m →
+    w ≡ with_word n 0 0x248 v → x ≡ with_word n 1 mark w → y ≡ with_word n 1438 0x200 x → z ≡ with_word n 1439 0x200 y →
+    z ≡ with_edges (n + 1) m
+edges_more n mark m v w x y z is hv hw hx hy hz = hz ∙ rw (hy, hx, hw, hv, is) (edges_are n m)
 
 -- The byte of a packet's block from a channel.
 pub byte_is : (coded : Blocks) (p c j q : ℕ) → c ≤ 1 → j < 224 → q ≡ 448 * p + 2 * j + (1 - c) → stream_byte coded q ≡ get_or (coded p c) j 0

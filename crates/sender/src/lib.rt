@@ -7,6 +7,6 @@ mod passes;
 mod searches;
 mod sender;
 
-pub use layout::BLOCKS;
-pub use memory::{BASIC, MEMORY, loads_stay};
+pub use layout::{BASIC, BLOCKS};
+pub use memory::{MEMORY, loads_stay};
 pub use sender::Sender;

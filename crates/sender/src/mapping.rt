@@ -6,13 +6,13 @@ ghost use Rattle.layout.specs.Mapped.{Blocks};
 ghost use Rattle.sender.specs.Mapping.{CodedBlocks, map_at, MappedOnto, with_field};
 ghost use Rattle.sender.specs.Passes.{with_stream};
 
-use crate::memory::{BASIC, MEMORY};
+use crate::memory::MEMORY;
 use crate::passes::FieldLines;
 use crate::searches::{first_absent, first_unloaded};
 use carriers::{Carrier, WritableCarrier};
 use codewords::{BLOCK, make_block};
 use denial::{Denial, Layer, Reason};
-use layout::{BLOCKS, whole};
+use layout::{BASIC, BLOCKS, whole};
 
 // How many packets a field has.
 const PACKETS: usize = BLOCKS / 2;

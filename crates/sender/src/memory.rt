@@ -3,10 +3,7 @@ ghost use Rattle.std.specs.Prelude.{◌≡◌};
 ghost use Rattle.sender.specs.Memory.{after_load, load_at, LoadsStay, stored};
 
 use denial::{Denial, Layer, Reason};
-use layout::{BLOCKS, BlockName};
-
-/// Bytes to a basic block.
-pub const BASIC: usize = 219;
+use layout::{BASIC, BLOCKS, BlockName};
 
 // Where the marks begin: behind the blocks.
 pub(crate) const MARKS: usize = BLOCKS * BASIC;
