@@ -9,6 +9,7 @@ pub enum Fault {
     Output(io::Error),
 }
 
+// By hand: `?` turns three kinds of error into two variants, which no derive does.
 impl From<Denial> for Fault {
     fn from(denial: Denial) -> Fault {
         Fault::Denied(denial)

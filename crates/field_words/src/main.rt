@@ -9,21 +9,37 @@ mod telling;
 
 use blocks::load_all;
 use fault::Fault;
-use mapped::{on_sheet, on_strip, on_window};
+use mapped::{FrameField, on_sheet, on_strip, on_window};
 use sender::{MEMORY, Sender};
 use std::io;
 use std::io::{BufWriter, Write};
 
+const FRAME_FIELDS: [FrameField; 2] = [
+    FrameField {
+        name: "window-0-0",
+        rate: 0,
+        field: 0,
+        start: 50,
+    },
+    FrameField {
+        name: "window-2-1",
+        rate: 2,
+        field: 1,
+        start: 372,
+    },
+];
+
 fn run(rt: &HostRuntime) -> Result<(), Fault> {
-    let heap = rt.alloc();
-    let mut output = BufWriter::new(heap, rt.stdout())?;
-    let mut memory = vec![in heap; 0u8; MEMORY]?;
+    let alloc = rt.alloc();
+    let mut output = BufWriter::new(alloc, rt.stdout())?;
+    let mut memory = vec![in alloc; 0u8; MEMORY]?;
     let mut sender = Sender::begin(memory.as_mut_slice());
     load_all(&mut sender)?;
-    on_sheet(heap, &sender, &mut output)?;
-    on_strip(heap, &sender, &mut output)?;
-    on_window(heap, "window-0-0", 0, 0, 50, &sender, &mut output)?;
-    on_window(heap, "window-2-1", 2, 1, 372, &sender, &mut output)?;
+    on_sheet(alloc, &sender, &mut output)?;
+    on_strip(alloc, &sender, &mut output)?;
+    for place in FRAME_FIELDS {
+        on_window(alloc, place, &sender, &mut output)?;
+    }
     output.flush()?;
     Ok(())
 }

@@ -1,8 +1,9 @@
 //! The field on each kind of carrier.
 use crate::fault::Fault;
 use crate::sums::WORDS;
-use crate::telling::{LINES, tell_frame, tell_in_full, tell_lines};
+use crate::telling::{FRAME, Telling};
 use carriers::{Sheet, Window};
+use layout::LINES;
 use sender::Sender;
 use std::alloc::Global;
 use std::io::Write;
@@ -11,47 +12,65 @@ use strip::Strip;
 // Bytes to a line of a strip.
 const STRIP_LINE: usize = 1800;
 
-// Lines of a frame.
-const FRAME: usize = 625;
-
 // What every word holds before, and no word of a field.
 const BEFORE: u16 = 5;
 
-pub fn on_sheet<W: Write>(heap: Global, sender: &Sender<'_>, output: &mut W) -> Result<(), Fault> {
-    let mut words = vec![in heap; BEFORE; LINES * WORDS]?;
+/// A field of a frame, and the line of the frame on which it begins.
+#[derive(Clone, Copy)]
+pub struct FrameField {
+    pub name: &'static str,
+    pub rate: usize,
+    pub field: usize,
+    pub start: usize,
+}
+
+pub fn on_sheet<W: Write>(alloc: Global, sender: &Sender<'_>, output: &mut W) -> Result<(), Fault> {
+    let mut words = vec![in alloc; BEFORE; LINES * WORDS]?;
     let mut sheet = Sheet {
         first: 0,
         words: words.as_mut_slice(),
     };
     sender.map(&mut sheet)?;
-    tell_lines("sheet", &sheet, output)?;
-    tell_in_full("sheet", &sheet, output)
+    let mut telling = Telling {
+        name: "sheet",
+        output,
+    };
+    telling.lines(&sheet)?;
+    telling.in_full(&sheet)
 }
 
-pub fn on_strip<W: Write>(heap: Global, sender: &Sender<'_>, output: &mut W) -> Result<(), Fault> {
-    let mut bytes = vec![in heap; 5u8; LINES * STRIP_LINE]?;
+pub fn on_strip<W: Write>(alloc: Global, sender: &Sender<'_>, output: &mut W) -> Result<(), Fault> {
+    let mut bytes = vec![in alloc; 5u8; LINES * STRIP_LINE]?;
     let mut strip = Strip {
         first: 0,
         bytes: bytes.as_mut_slice(),
     };
     sender.map(&mut strip)?;
-    tell_lines("strip", &strip, output)
+    let mut telling = Telling {
+        name: "strip",
+        output,
+    };
+    telling.lines(&strip)
 }
 
 pub fn on_window<W: Write>(
-    heap: Global,
-    name: &str,
-    rate: usize,
-    field: usize,
-    start: usize,
+    alloc: Global,
+    place: FrameField,
     sender: &Sender<'_>,
     output: &mut W,
 ) -> Result<(), Fault> {
-    let mut words = vec![in heap; BEFORE; FRAME * WORDS]?;
+    let FrameField {
+        name,
+        rate,
+        field,
+        start,
+    } = place;
+    let mut words = vec![in alloc; BEFORE; FRAME * WORDS]?;
     let mut frame = Sheet {
         first: 1,
         words: words.as_mut_slice(),
     };
+    let mut telling = Telling { name, output };
     {
         let mut window = Window {
             rate,
@@ -59,7 +78,7 @@ pub fn on_window<W: Write>(
             below: &mut frame,
         };
         sender.map(&mut window)?;
-        tell_lines(name, &window, output)?;
+        telling.lines(&window)?;
     }
-    tell_frame(name, &frame, start, output)
+    telling.frame(&frame, start)
 }

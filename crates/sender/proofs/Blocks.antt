@@ -1,5 +1,5 @@
 -- The blocks of a sender's memory, and their coded blocks.
-use Rattle.std.proofs.Common.{◌≡◌, ℕ, ◌+◌, ◌-◌, ◌*◌, ◌<◌, ◌≤◌, true, false, ◌⊎◌, List, [], length, get_or, take, drop, sym, ap, ◌∙◌, subst, inl, inr, arith, length-drop, length-take, get_or-drop, get_or-take}
+use Rattle.std.proofs.Common.{◌≡◌, ℕ, ◌+◌, ◌*◌, ◌<◌, ◌≤◌, true, false, ◌⊎◌, List, [], length, get_or, drop, sym, ◌∙◌, subst, inl, inr, arith, length-drop, length-take, get_or-drop, get_or-take}
 use Rattle.std.proofs.lemmas.Bool.{cases_Bool}
 use Rattle.std.proofs.lemmas.Bool.Decides.{nat_tests}
 use Rattle.codewords.proofs.Coding.{one_block}
@@ -9,11 +9,6 @@ use Rattle.sender.specs.Memory.{block_at, index_of}
 
 pub block_length : (m : List ℕ) (p c : ℕ) → length m ≡ 298320 → p ≤ 677 → c ≤ 1 → length (block_at m p c) ≡ 219
 block_length m p c size hp hc = simp (length-take, length-drop) (omega arith)
-
-pub part_is : (m : List ℕ) (p c start stop : ℕ) → start ≡ 219 * index_of p c → stop ≡ start + 219 → take (stop - start) (drop start m) ≡ block_at m p c
-part_is m p c start stop at to =
-    let size : stop - start ≡ 219 = omega arith in
-    ap (λ k. take k (drop start m)) size ∙ ap (λ k. take 219 (drop k m)) at
 
 block_byte : (m : List ℕ) (p c i : ℕ) → ((k : ℕ) → get_or m k 0 < 256) → i < 219 → get_or (block_at m p c) i 0 < 256
 block_byte m p c i bytes h =

@@ -1,3 +1,5 @@
 pub mod Passing
 pub mod Blocks
 mod Loading
+mod Pairs
+mod Searching

@@ -10,10 +10,6 @@ use Rattle.layout.specs.Words.{sent_word}
 use Rattle.sender.specs.Mapping.{absent, with_field}
 use Rattle.sender.specs.Passes.{with_edges, with_filling, with_stream, with_word}
 
--- The stream is at its beginning.
-pub stream_none : (coded : Blocks) (c : Meaning) → with_stream coded 0 c ≡ c
-stream_none coded c = same_meaning refl refl (λ l w. grind (arith, nat_tests))
-
 pub stream_more : (coded : Blocks) (q : ℕ) (c : Meaning) (value : ℕ) → value ≡ sent_word (stream_byte coded q) →
     with_word (q / 1436) (2 + q % 1436) value (with_stream coded q c) ≡ with_stream coded (q + 1) c
 stream_more coded q c value is = same_meaning refl refl (λ l w. at_place l w (cases_Bool (eqb l (q / 1436) && eqb w (2 + q % 1436))))
@@ -28,23 +24,20 @@ stream_more coded q c value is = same_meaning refl refl (λ l w. at_place l w (c
         let same : (leb 2 w && (ltb w 1438 && ltb (1436 * l + (w - 2)) q)) ≡ (leb 2 w && (ltb w 1438 && ltb (1436 * l + (w - 2)) (q + 1))) = grind (arith, nat_tests) in
         rw (e, same)
 
-pub edges_none : (c : Meaning) → with_edges 0 c ≡ c
-edges_none c = same_meaning refl refl (λ l w. grind (arith, nat_tests))
-
-pub edges_more : (n : ℕ) (c : Meaning) →
+edges_are : (n : ℕ) (c : Meaning) →
     with_word n 1439 0x200 (with_word n 1438 0x200 (with_word n 1 (mark_word n) (with_word n 0 0x248 (with_edges n c)))) ≡ with_edges (n + 1) c
-edges_more n c = same_meaning refl refl (λ l w. at_place l w (cases_Bool (eqb l n)))
+edges_are n c = same_meaning refl refl (λ l w. at_place l w (cases_Bool (eqb l n)))
   where
     at_place : (l w : ℕ) → (eqb l n ≡ true) ⊎ (eqb l n ≡ false) →
         (with_word n 1439 0x200 (with_word n 1438 0x200 (with_word n 1 (mark_word n) (with_word n 0 0x248 (with_edges n c))))).word l w ≡ (with_edges (n + 1) c).word l w
     at_place l w (inl e) = grind (arith, nat_tests)
     at_place l w (inr e) = grind (arith, nat_tests)
 
-pub filling_none : (c : Meaning) → with_filling 750 c ≡ c
-filling_none c = same_meaning refl refl (λ l w. grind (arith, nat_tests))
-
-pub filling_more : (k : ℕ) (c : Meaning) → 750 ≤ k → with_word 211 k 0x200 (with_filling k c) ≡ with_filling (k + 1) c
-filling_more k c h = same_meaning refl refl (λ l w. grind (arith, nat_tests))
+-- The four words of line n, one after the other.
+pub edges_more : (n mark : ℕ) (m v w x y z : Meaning) → mark ≡ mark_word n → v ≡ with_edges n m →
+    w ≡ with_word n 0 0x248 v → x ≡ with_word n 1 mark w → y ≡ with_word n 1438 0x200 x → z ≡ with_word n 1439 0x200 y →
+    z ≡ with_edges (n + 1) m
+edges_more n mark m v w x y z is hv hw hx hy hz = hz ∙ rw (hy, hx, hw, hv, is) (edges_are n m)
 
 -- The byte of a packet's block from a channel.
 pub byte_is : (coded : Blocks) (p c j q : ℕ) → c ≤ 1 → j < 224 → q ≡ 448 * p + 2 * j + (1 - c) → stream_byte coded q ≡ get_or (coded p c) j 0
@@ -54,22 +47,23 @@ byte_is coded p c j q hc hj e =
     let d : q % 448 / 2 ≡ j = omega arith in
     rw (a, b, d)
 
--- A byte of each block of a packet.
-pub packet_more : (coded : Blocks) (p j : ℕ) (m x y z : Meaning) (even odd : List ℕ) → j < 224 → coded p 1 ≡ even → coded p 0 ≡ odd →
+-- A byte of each block of a packet, a and b, at place n of the blocks.
+pub packet_more : (coded : Blocks) (p j n a b : ℕ) (m x y z : Meaning) (even odd : List ℕ) → (j < 224) × (n ≡ j) × (a ≡ get_or even j 0) × (b ≡ get_or odd j 0) →
+    coded p 1 ≡ even → coded p 0 ≡ odd →
     x ≡ with_stream coded (448 * p + 2 * j) m →
-    y ≡ with_word ((448 * p + 2 * j) / 1436) (2 + (448 * p + 2 * j) % 1436) (sent_word (get_or even j 0)) x →
-    z ≡ with_word ((448 * p + 2 * j + 1) / 1436) (2 + (448 * p + 2 * j + 1) % 1436) (sent_word (get_or odd j 0)) y →
+    y ≡ with_word ((448 * p + 2 * n) / 1436) (2 + (448 * p + 2 * n) % 1436) (sent_word a) x →
+    z ≡ with_word ((448 * p + 2 * n + 1) / 1436) (2 + (448 * p + 2 * n + 1) % 1436) (sent_word b) y →
     z ≡ with_stream coded (448 * p + 2 * (j + 1)) m
-packet_more coded p j m x y z even odd hj he ho hx hy hz =
+packet_more coded p j n a b m x y z even odd (hj, hn, ha, hb) he ho hx hy hz =
     let q = 448 * p + 2 * j in
     let at-even : sent_word (get_or even j 0) ≡ sent_word (stream_byte coded q) =
     ap (λ v. sent_word (get_or v j 0)) (sym he) ∙ ap sent_word (sym (byte_is coded p 1 j q (omega arith) hj (omega arith))) in
     let at-odd : sent_word (get_or odd j 0) ≡ sent_word (stream_byte coded (q + 1)) =
     ap (λ v. sent_word (get_or v j 0)) (sym ho) ∙ ap sent_word (sym (byte_is coded p 0 j (q + 1) (omega arith) hj (omega arith))) in
     let y-is : y ≡ with_stream coded (q + 1) m =
-    hy ∙ ap (with_word (q / 1436) (2 + q % 1436) (sent_word (get_or even j 0))) hx ∙ stream_more coded q m _ at-even in
+    (rw (hn, ha) at hy) ∙ ap (with_word (q / 1436) (2 + q % 1436) (sent_word (get_or even j 0))) hx ∙ stream_more coded q m _ at-even in
     let next : q + 1 + 1 ≡ 448 * p + 2 * (j + 1) = omega arith in
-    hz ∙ ap (with_word ((q + 1) / 1436) (2 + (q + 1) % 1436) (sent_word (get_or odd j 0))) y-is ∙ stream_more coded (q + 1) m _ at-odd
+    (rw (hn, hb) at hz) ∙ ap (with_word ((q + 1) / 1436) (2 + (q + 1) % 1436) (sent_word (get_or odd j 0))) y-is ∙ stream_more coded (q + 1) m _ at-odd
     ∙ ap (λ k. with_stream coded k m) next
 
 -- The three passes together write the field.

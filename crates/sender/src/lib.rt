@@ -7,5 +7,6 @@ mod passes;
 mod searches;
 mod sender;
 
-pub use memory::{BASIC, BLOCKS, MEMORY, loads_stay};
+pub use layout::{BASIC, BLOCKS};
+pub use memory::{MEMORY, loads_stay};
 pub use sender::Sender;

@@ -4,9 +4,10 @@ ghost use Rattle.sender.specs.Mapping.{map_at, MappedOnto};
 ghost use Rattle.sender.specs.Memory.{after_load, begun, load_at};
 
 use crate::mapping::map_onto;
-use crate::memory::{clear_marks, load_into};
+use crate::memory::{MARKS, MEMORY, load_into};
 use carriers::{Carrier, WritableCarrier};
 use denial::Denial;
+use layout::clear_marks;
 
 /// It works in 298,320 lent bytes. In memory of another length every call but `release` is refused with `memory`.
 #[derive(Drop)]
@@ -20,7 +21,7 @@ impl<'m> Sender<'m> {
         ensures bytes { result.memory.now ≡ begun memory.old }
         ensures same { result.memory.ghost_name ≡ memory.entry.ghost_name }
     {
-        clear_marks(memory);
+        clear_marks(memory, MEMORY, MARKS);
         Sender { memory }
     }
 

@@ -1,23 +1,17 @@
-use Rattle.std.proofs.Common.{◌≡◌, true, sym, arith}
-use Rattle.std.proofs.lemmas.Bool.Decides.{nat_tests}
-use Rattle.sender.specs.Memory.{fits}
+use Rattle.std.proofs.Common.{sym, rules, subst}
+use Rattle.sender.specs.Mapping.{CodedBlocks}
 use Rattle.sender.proofs.Blocks.{coded_block}
 use Rattle.sender.proofs.Passing.{lacks_none}
 use Rattle.sender.proofs.mapping.map_onto.Goals as goal
 
-pub map_field-requires : goal.map_field-requires
-map_field-requires g c =
+pub invariant_of-lines : goal.invariant_of-lines
+invariant_of-lines g c =
     let lines = lacks_none (g.C.Carrier.meaning c.args.carrier.now) (sym c.in_default-first_absent.ensures) in
-    record { memory = c.if-memory-ne-MEMORY.false; first = lines.0; end = lines.1 }
+    record { first = lines.0; end = lines.1 }
 
-pub returns : goal.returns
-returns g c =
-    let coded = coded_block c.args.memory.now c.if-memory-ne-MEMORY.false (λ k. (c.type_inv.memory k).fits) in
-    let size : fits c.args.memory.now ≡ true = grind (arith, nat_tests) in
-    let loaded = sym c.in_default.ensures in
-    let lines = sym c.in_default-first_absent.ensures in
-    record {
-      answer = rw (size, loaded, lines);
-      after = (λ p c. (coded p c).0, λ p c. (coded p c).1, c.map_field.ensures.after _ (λ p c. (coded p c).1));
-      beside = c.map_field.ensures.beside;
-    }
+pub returns-clause-after : goal.returns-clause-after
+returns-clause-after g c =
+    let coded = coded_block c.args.memory.now c.in_ok-memory.ensures.0 (λ k. (c.type_inv.memory k).fits) in
+    let blocks : CodedBlocks c.in_ok-memory.memory.now (λ p c. (coded p c).0) = subst (λ m. CodedBlocks m (λ p c. (coded p c).0)) (sym c.in_ok-memory.ensures.1) (λ p c. (coded p c).1) in
+    let written = c.map_field.ensures.after (λ p c. (coded p c).0) blocks in
+    (λ p c. (coded p c).0, λ p c. (coded p c).1, search rules)

@@ -1,23 +1,14 @@
-use Rattle.std.proofs.Common.{◌+◌, ◌*◌, length, sym, ap, ◌∙◌, subst, arith, rules}
+use Rattle.std.proofs.Common.{◌≡◌, ◌*◌, take, drop, subst, arith}
 use Rattle.codewords.specs.Blocks.{BlockOf}
-use Rattle.sender.proofs.Blocks.{block_length, part_is}
+use Rattle.sender.specs.Memory.{index_of}
 use Rattle.sender.proofs.mapping.map_packet.Goals as goal
 
-pub returns : goal.returns
-returns g c =
-    let m = c.args.memory.now in
+pub returns-clause-after : goal.returns-clause-after
+returns-clause-after g c =
     let p = c.args.packet in
-    let first = part_is m p 1 (438 * p) (438 * p + 219) (omega arith) (omega arith) in
-    let second = part_is m p 0 (438 * p + 219) (438 * p + 219 + 219) (omega arith) (omega arith) in
-    let one = c.make_block.ensures.made (ap length first ∙ block_length m p 1 c.requires.memory c.requires.packet (omega arith)) (search rules) in
-    let two = c.make_block-2.ensures.made (ap length second ∙ block_length m p 0 c.requires.memory c.requires.packet (omega arith)) (search rules) in
-    record {
-      after = λ coded n blocks before.
-          c.put_packet.ensures.after coded n
-          (one.2 (coded p 1) (subst (λ b. BlockOf b (coded p 1)) (sym first) (blocks p 1 c.requires.packet (omega arith))))
-          (two.2 (coded p 0) (subst (λ b. BlockOf b (coded p 0)) (sym second) (blocks p 0 c.requires.packet (omega arith))))
-          before;
-      first = c.put_packet.ensures.first;
-      end = c.put_packet.ensures.end;
-      beside = c.put_packet.ensures.beside;
-    }
+    let at-even : index_of p 1 ≡ 2 * p = omega arith in
+    λ coded n blocks before.
+    c.put_packet.ensures.after coded n
+    (c.coded_block-even.ensures (coded p 1) (subst (λ o. BlockOf (take 219 (drop (219 * o) c.args.memory.now)) (coded p 1)) at-even (blocks p 1 c.requires (omega arith))))
+    (c.coded_block-odd.ensures (coded p 0) (blocks p 0 c.requires (omega arith)))
+    before

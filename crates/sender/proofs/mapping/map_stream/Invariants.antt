@@ -5,9 +5,8 @@ use Rattle.sender.specs.Passes.{with_stream}
 use Rattle.sender.proofs.mapping.map_stream.Given as goal
 
 abbrev pub invariant-loop-packet : goal.invariant-loop-packet
-invariant-loop-packet g l =
-    ((g.C.Carrier.meaning l.carrier).first ≡ (g.C.Carrier.meaning l.initial.carrier).first)
-    × ((g.C.Carrier.meaning l.carrier).end ≡ (g.C.Carrier.meaning l.initial.carrier).end)
-    × (g.C.WritableCarrier.rest l.carrier ≡ g.C.WritableCarrier.rest l.initial.carrier)
-    × ((coded : Blocks) → CodedBlocks l.memory coded →
-    g.C.Carrier.meaning l.carrier ≡ with_stream coded (448 * l.packet) (g.C.Carrier.meaning l.initial.carrier))
+invariant-loop-packet g l = record {
+  beside : g.C.WritableCarrier.rest l.lines.carrier ≡ g.C.WritableCarrier.rest l.initial.lines.carrier;
+  after : (coded : Blocks) → CodedBlocks l.memory coded →
+      g.C.Carrier.meaning l.lines.carrier ≡ with_stream coded (448 * l.packet) (g.C.Carrier.meaning l.initial.lines.carrier);
+}

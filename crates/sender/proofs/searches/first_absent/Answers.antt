@@ -1,14 +1,12 @@
-use Rattle.std.proofs.Common.{not, sym, arith}
-use Rattle.std.proofs.lemmas.Bool.Decides.{nat_tests}
+use Rattle.std.proofs.Common.{◌≡◌, ℕ, true, false, Bool, not, rules}
+use borrow.Author.Tests.{tests}
+use Rattle.std.proofs.lemmas.Iterator.{first_from_Range}
 use Rattle.carriers.specs.Meaning.{has}
-use Rattle.layout.proofs.Firsts.{first_at, none_below}
+use Rattle.sender.proofs.Searching.{line_found}
 use Rattle.sender.proofs.searches.first_absent.Goals as goal
-
-pub returns-then-is_err : goal.returns-then-is_err
-returns-then-is_err g c =
-    sym (first_at (λ line. not (has (g.C.Carrier.meaning c.args.carrier.now) line 0)) 212 c.loop-line.line
-    (record { below = omega arith; passes = grind (arith, nat_tests); none_before = c.loop-line.invariant.1 }))
 
 pub returns : goal.returns
 returns g c =
-    sym (none_below (λ line. not (has (g.C.Carrier.meaning c.args.carrier.now) line 0)) 212 (λ k h. c.loop-line.invariant.1 k (omega arith)))
+    let lacks : ℕ → Bool = λ line. not (has (g.C.Carrier.meaning c.args.carrier.now) line 0) in
+    line_found lacks 212 c.find.result
+    (first_from_Range _ _ _ c.find.result (λ line. lacks line ≡ true) (λ line. lacks line ≡ false) c.find.ensures.ran (λ x q k. search (rules, tests)) (λ x q k. search (rules, tests)))
