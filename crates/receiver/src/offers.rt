@@ -6,7 +6,7 @@ use crate::lines::HeldLine;
 use crate::memory::{MARKS, MEMORY};
 use carriers::Carrier;
 use denial::{Denial, Layer, Reason};
-use layout::{LINE, LINES, received_byte, whole};
+use layout::{LINE, LINES, received_byte};
 
 // The line that is offered, where it may be taken.
 fn check_offer<'c, C: Carrier>(
@@ -29,10 +29,9 @@ fn check_offer<'c, C: Carrier>(
     Ok(held)
 }
 
-// Writes a line's bytes and its mark. A slice: what it holds at last is not known of memory lent on as an array by `try_from`.
-fn take_line<C: Carrier>(memory: &mut [u8], held: &HeldLine<C>)
-    requires memory { length memory.old ≡ 304644 }
-    requires line { held.now.line ≤ 211 }
+// Writes a line's bytes and its mark.
+fn take_line<C: Carrier>(memory: &mut [u8; MEMORY], held: &HeldLine<C>)
+    requires { held.now.line ≤ 211 }
     ensures size { length memory.new ≡ length memory.old }
     ensures bytes { (i : ℕ) → slice_index memory.new i ≡ taken_byte memory.old ((C.meaning held.now.carrier.now).word held.now.line) held.now.line i }
 {
@@ -52,7 +51,10 @@ pub(crate) fn offer_into<C: Carrier>(
     ensures answer { result ≡ offer_at memory.old (C.meaning carrier.now) line }
     ensures after { Offered memory.old ((C.meaning carrier.now).word line) line memory.new result }
 {
-    let held = check_offer(whole::<MEMORY>(memory)?, carrier, line)?;
+    let Some(memory) = memory.as_mut_array::<MEMORY>() else {
+        return Err(Denial::new(Reason::Memory, Layer::Field, memory.len(), 0));
+    };
+    let held = check_offer(memory, carrier, line)?;
     take_line(memory, &held);
     Ok(())
 }
