@@ -16,7 +16,7 @@ use Rattle.denial.specs.declared.Denial.{Denial}
 use Rattle.denial.specs.declared.Reason.TheVariants.{Wide, Length}
 use Rattle.denial.specs.declared.Layer.TheVariants.{Code}
 use Rattle.codewords.specs.Bytes.{AllNumbers, CodedBytes, CodedFrom, FirstWide, MadeBytes, Refused}
-use Rattle.codewords.specs.Blocks.{BlockMade, OneBlock}
+use Rattle.codewords.specs.Blocks.{OneBlock}
 use Rattle.codewords.specs.Labels.{LabelMade, LabelOf}
 use Rattle.codewords.proofs.Mends.{all_numbers, first_once}
 use Rattle.codewords.proofs.Numbers.{same_numbers}
@@ -68,20 +68,6 @@ data_numbers basic bytes i h =
       | yes inside ↦ omega (arith, get_or_append_left basic (0 ∷ []) 0 i inside, bytes i inside)
       | no past ↦ omega (arith, length-append basic (0 ∷ []), get_or_push basic 0 0 i (omega (arith, length-append basic (0 ∷ []))))
     ]
-
-pub block_made : (basic before after : List ℕ) (r : Result (Unit {0}) Denial) → length basic ≡ 219 → ((i : ℕ) → i < length basic → get_or basic i 0 < 256) →
-    let d = basic ++ (0 ∷ []) in
-    (¬ (length before ≡ length d + 4) → Refused before after r (denied Length Code (length before) 0)) →
-    (length before ≡ length d + 4 → MadeBytes gf256 d before after r) → BlockMade basic before after r
-block_made basic before after r lb bytes wrong m =
-    let d = basic ++ (0 ∷ []) in
-    let size : length d + 4 ≡ 224 = omega (arith, data_size basic 0 lb) in
-    record {
-      wrong_bytes = λ ne. absurd (ne lb);
-      wrong_place = λ _ ne. wrong (λ e. ne (e ∙ size));
-      made = λ _ lp. subst (λ n. (r ≡ Ok tt) × CodedFrom gf256 n d after × ((v : List ℕ) → CodedFrom gf256 n d v → v ≡ after)) size
-          ((m (lp ∙ sym size)).made (data_numbers basic bytes));
-    }
 
 pub label_made : (digits before after : List ℕ) (r : Result (Unit {0}) Denial) →
     (¬ (length digits ≡ 11) → Refused before after r (denied Length Code (length digits) 0)) →

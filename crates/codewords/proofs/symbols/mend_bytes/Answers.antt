@@ -4,17 +4,8 @@ use Rattle.std.proofs.lemmas.Result.{err_from_is_err_and}
 use Rattle.denial.specs.Denials.{denied}
 use Rattle.denial.specs.declared.Reason.TheVariants.{Lost}
 use Rattle.denial.specs.declared.Layer.TheVariants.{Code}
-use Rattle.codewords.proofs.Mends.{refused_length, refused_wide, given, lost}
+use Rattle.codewords.proofs.Mends.{given, lost}
 use Rattle.codewords.proofs.symbols.mend_bytes.Goals as goal
-
-pub returns-then-bytes-word : goal.returns-then-bytes-word
-returns-then-bytes-word g c = rw c.new.ensures (refused_length g.F.Field.field _ _ c.if-bytes-word.true)
-
-pub returns-in_err-read_symbols : goal.returns-in_err-read_symbols
-returns-in_err-read_symbols g c =
-    let told = c.in_err-read_symbols.ensures in
-    let p = err_from_is_err_and c.from_residual.result c.from_residual.ensures.1 in
-    rw (p.1, p.2, told.2, ← c.if-bytes-word.false) (refused_wide g.F.Field.field _ told.0 told.1)
 
 pub returns-in_err-mends : goal.returns-in_err-mends
 returns-in_err-mends g c =

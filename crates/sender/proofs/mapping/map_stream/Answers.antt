@@ -2,12 +2,6 @@ use Rattle.std.proofs.Common.{◌≡◌, ◌+◌, ◌*◌, ap, ◌∙◌, arith}
 use Rattle.sender.specs.Passes.{with_stream}
 use Rattle.sender.proofs.mapping.map_stream.Goals as goal
 
-pub returns-clause-after : goal.returns-clause-after
-returns-clause-after g c =
-    λ coded blocks.
-    let all : 448 * c.loop-packet.packet ≡ 303744 = omega arith in
-    c.loop-packet.invariant.after coded blocks ∙ ap (λ q. with_stream coded q (g.C.Carrier.meaning c.args.lines.now.carrier)) all
-
 pub loop-packet-preserved : goal.loop-packet-preserved
 loop-packet-preserved g c =
     let inv = c.loop-packet.invariant in
