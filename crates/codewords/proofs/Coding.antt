@@ -1,6 +1,5 @@
 -- Coding data: four check bytes written after it.
-use Rattle.std.proofs.Common.{◌≡◌, ℕ, suc, ◌+◌, ◌<◌, List, [], ◌∷◌, ◌++◌, map, length, get_or, take, drop, Ok, Err, Result, sym, refl, ap, ◌∙◌, subst, ap₂, mod-eq_of_lt, arith, length-append, take-append-drop, take_at}
-use Rattle.std.proofs.lemmas.Grind.{common_steps}
+use Rattle.std.proofs.Common.{◌≡◌, ℕ, suc, ◌+◌, ◌<◌, List, [], ◌∷◌, ◌++◌, map, length, get_or, take, drop, Ok, Result, sym, refl, ap, ◌∙◌, subst, ap₂, mod-eq_of_lt, arith, length-append, take-append-drop, take_at}
 use native.Mathlib.Decide.{dec_lt}
 use Rattle.std.proofs.lemmas.List.{length-map, map-append, take-map, get_or_append_left, get_or_push}
 use Rattle.galois.specs.Field.{Arithmetic, Laws}
@@ -13,18 +12,15 @@ use Rattle.codec.specs.Check.{symbols, Checks}
 use Rattle.codec.proofs.Dividing.{some_checks}
 use Rattle.denial.specs.Denials.{denied}
 use Rattle.denial.specs.declared.Denial.{Denial}
-use Rattle.denial.specs.declared.Reason.TheVariants.{Wide, Length}
+use Rattle.denial.specs.declared.Reason.TheVariants.{Length}
 use Rattle.denial.specs.declared.Layer.TheVariants.{Code}
-use Rattle.codewords.specs.Bytes.{AllNumbers, CodedBytes, CodedFrom, FirstWide, MadeBytes, Refused}
+use Rattle.codewords.specs.Bytes.{AllNumbers, CodedBytes, CodedFrom, MadeBytes, Refused}
 use Rattle.codewords.specs.Blocks.{OneBlock}
 use Rattle.codewords.specs.Labels.{LabelMade, LabelOf}
-use Rattle.codewords.proofs.Mends.{all_numbers, first_once}
+use Rattle.codewords.proofs.Mends.{all_numbers}
 use Rattle.codewords.proofs.Numbers.{same_numbers}
 
 module _ {F : Type 0} (K : Arithmetic F) where
-  pub refused : (d before : List ℕ) (i : ℕ) → FirstWide K d i → MadeBytes K d before before (Err (denied Wide Code 0 i))
-  refused d before i first = grind (arith, common_steps, first_once)
-
   module _ (laws : Laws K) (d : List ℕ) (w : List F) (c : Cubic F) (e : map K.number w ≡ d) (checks : Checks K w c) where
     abbrev whole : List ℕ
     whole = d ++ map K.number (symbols c)

@@ -11,7 +11,7 @@ use Rattle.codec.specs.declared.record.MendRecord.{MendRecord}
 use Rattle.codec.proofs.Answering.{same_places}
 use Rattle.denial.specs.Denials.{denied}
 use Rattle.denial.specs.declared.Denial.{Denial}
-use Rattle.denial.specs.declared.Reason.TheVariants.{Wide, Length, Lost}
+use Rattle.denial.specs.declared.Reason.TheVariants.{Lost}
 use Rattle.denial.specs.declared.Layer.TheVariants.{Code}
 use Rattle.codewords.specs.Bytes.{WithinTwoBytes, AllNumbers, FirstWide, MendedBytes, MendedBytesOneWay, differing_bytes}
 use Rattle.codewords.proofs.Numbers.{differing_numbers, front_below}
@@ -27,12 +27,6 @@ module _ {F : Type 0} (K : Arithmetic F) where
   pub first_once : (b : List ℕ) (i j : ℕ) → FirstWide K b i → FirstWide K b j → i ≡ j
   first_once b i j p q =
       grind (arith, common_steps)
-
-  pub refused_length : (n : ℕ) (b : List ℕ) → ¬ (length b ≡ n) → MendedBytes K n b b (Err (denied Length Code (length b) 0))
-  refused_length n b ne = grind (arith, common_steps)
-
-  pub refused_wide : (b : List ℕ) (i : ℕ) → FirstWide K b i → MendedBytes K (length b) b b (Err (denied Wide Code 0 i))
-  refused_wide b i first = grind (arith, common_steps, first_once)
 
   -- either some byte is the first that is no number, or none is
   wide_below : (b : List ℕ) (k : ℕ) → k ≤ length b → ((i : ℕ) × FirstWide K b i) ⊎ ((j : ℕ) → j < k → get_or b j 0 < K.size)
