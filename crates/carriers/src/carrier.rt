@@ -14,6 +14,7 @@ pub trait Carrier {
 }
 
 /// What can be written too.
+// Each call that writes says by a clause `beside` that `rest` stays: that is a promise of the call, and no fact of a value.
 pub trait WritableCarrier: Carrier {
     // What no write changes. Each carrier here says by it all that its meaning does not tell, as the memory behind its lines.
     ghost Rest: { Type 0 };

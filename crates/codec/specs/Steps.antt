@@ -1,5 +1,5 @@
 -- What the steps between a word and its mending tell each other.
-use Rattle.std.specs.Prelude.{◌≡◌, ℕ, ◌<◌, ◌≤◌, List, Some, None, Option, ◌≢◌}
+use Rattle.std.specs.Prelude.{◌≡◌, ℕ, ◌<◌, ◌≤◌, List, length, Some, None, Option, ◌≢◌}
 use Rattle.galois.specs.Field.{Arithmetic, power}
 use Rattle.galois.specs.Roots.{cubic_at}
 use Rattle.galois.specs.declared.cubic.Cubic.{Cubic}
@@ -19,6 +19,12 @@ module _ {F : Type 0} (K : Arithmetic F) where
   -- the values of the word at the four roots of the generator
   abbrev pub syndromes : List F → Syndromes F
   syndromes w = record { s0 = syndrome K w 0; s1 = syndrome K w 1; s2 = syndrome K w 2; s3 = syndrome K w 3 }
+
+  -- s is what is told of w, a word of a length that the code has
+  pub record Told (w : List F) (s : Syndromes F) : Type 0 where
+    pub long : 5 ≤ length w
+    pub short : length w ≤ K.order
+    pub values : s ≡ syndromes w
 
   -- r has the word's values at the four roots: it is what division by the generator leaves of the word
   abbrev pub Remains : List F → Cubic F → Type 0

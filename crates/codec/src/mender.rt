@@ -1,7 +1,7 @@
 //! Mending: from the syndromes to the places and values of at most two errors.
 ghost use Rattle.std.specs.Prelude.{◌≡◌, ◌<◌, ◌≤◌, true, false, length, ◌≢◌};
 ghost use Rattle.codec.specs.Mend.{Mended, MendedOneWay};
-ghost use Rattle.codec.specs.Steps.{AllZero, Attempt, syndromes, trinomial_at};
+ghost use Rattle.codec.specs.Steps.{AllZero, Attempt, Told, trinomial_at};
 ghost use Rattle.reed_solomon.specs.Errors.{altered, determinant, quadratic};
 
 use crate::record::MendRecord;
@@ -22,9 +22,7 @@ fn alter<F: Field>(word: &mut [F], place: usize, by: F)
 
 // Mends one place: the only one whose locator takes each syndrome to the next.
 fn mend_one<F: Field>(word: &mut [F], s: Syndromes<F>) -> Option<MendRecord>
-    requires long { 5 ≤ length word.old }
-    requires short { length word.old ≤ F.field.order }
-    requires told { s ≡ syndromes F.field word.old }
+    requires told { Told F.field word.old s }
     requires unclean { AllZero F.field s → ⊥ }
     requires singular { determinant F.field word.old ≡ F.field.zero }
     ensures { Attempt F.field word.old word.new result }
@@ -49,9 +47,7 @@ fn mend_one<F: Field>(word: &mut [F], s: Syndromes<F>) -> Option<MendRecord>
 
 // Mends two places: those whose locators are the roots of the quadratic.
 fn mend_two<F: Field>(word: &mut [F], s: Syndromes<F>, t: Trinomial<F>) -> Option<MendRecord>
-    requires long { 5 ≤ length word.old }
-    requires short { length word.old ≤ F.field.order }
-    requires told { s ≡ syndromes F.field word.old }
+    requires told { Told F.field word.old s }
     requires regular { determinant F.field word.old ≢ F.field.zero }
     requires shape { (x : _) → trinomial_at F.field t x ≡ quadratic F.field word.old x }
     ensures { Attempt F.field word.old word.new result }

@@ -2,6 +2,7 @@
 ghost use Rattle.std.specs.Prelude.{◌≡◌, ◌<◌, ◌≤◌};
 
 /// The places rise, and one that is not used is 255, which is no place of a word. No record exists whose count and places disagree.
+// A struct and no enum of none, one or two: the count and both places are asked for by number, and only this crate may make one.
 #[derive(Clone, Copy, PartialEq, Eq, Debug)]
 pub struct MendRecord {
     count: u8,

@@ -12,6 +12,7 @@ pub struct Trinomial<F> {
     pub constant: F,
 }
 
+// `Terms` is a clause of these and no fact of the type: it names the trinomial, which is not kept beside its terms.
 impl<F: Field> Trinomial<F> {
     // The three terms of the value at `x`.
     fn terms_at(self, x: F) -> Trinomial<F>
@@ -45,6 +46,7 @@ impl<F: Field> Trinomial<F> {
 }
 
 /// A power of alpha, which stands for the place whose symbol is the coefficient of X to that exponent.
+// `IsPower` is a clause and no ghost field: over one, at a type parameter, `Clone` and `Copy` would have to be written by hand.
 #[derive(Clone, Copy)]
 pub struct Locator<F> {
     pub exponent: usize,

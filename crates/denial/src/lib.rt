@@ -53,6 +53,7 @@ impl Reason {
     }
 
     /// The reason's name in lower case.
+    // No `Display` beside: only a whole refusal is printed.
     pub fn word(self) -> &'static str
         ensures { result.now ≡ word_of self }
     {

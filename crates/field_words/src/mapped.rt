@@ -24,6 +24,7 @@ pub struct FrameField {
     pub start: usize,
 }
 
+// The allocator, the sender and the output of these three have nothing else in common.
 pub fn on_sheet<W: Write>(alloc: Global, sender: &Sender<'_>, output: &mut W) -> Result<(), Fault> {
     let mut words = vec![in alloc; BEFORE; LINES * WORDS]?;
     let mut sheet = Sheet {

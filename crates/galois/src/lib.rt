@@ -14,6 +14,7 @@ pub use element::{Element, Gf16, Gf256};
 use std::ops::{Add, Mul};
 
 /// A field says by `field` what its operations are, and shows by `laws` that they are those of a field.
+// `equals`, `number` and `from_number` are methods, so that an implementation owes no `==`, `Into` or `TryFrom` with laws of their own.
 pub trait Field: Copy + Add<Self, Output = Self> + Mul<Self, Output = Self> {
     ghost field: { Arithmetic Self };
 

@@ -6,6 +6,7 @@ use crate::block::{BlockName, PACKET};
 use denial::{Denial, Reason};
 
 /// A byte of a coded block.
+// Plain numbers and no `BlockName`: it is an answer to be read, and anyone may make one.
 #[derive(Clone, Copy, PartialEq, Eq, Debug)]
 pub struct CodedByte {
     pub packet: usize,

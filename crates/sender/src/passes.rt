@@ -10,6 +10,7 @@ use codewords::BLOCK;
 use layout::{FILLER, LINE, LINES, PACKET, TYPE_WORD, mark_word, sent_word};
 
 /// A carrier that has the lines of a field.
+// Lines, words and packets stay plain numbers here: each is the coordinate of one write, and a type for it would be made and taken apart at once.
 #[derive(Drop)]
 pub(crate) struct FieldLines<C: WritableCarrier> {
     pub(crate) carrier: C,

@@ -9,7 +9,7 @@ pub returns-then-is_zero : goal.returns-then-is_zero
 returns-then-is_zero g c =
     let m = g.met.F.Field in (
       refl,
-      one_zero g.F.Field.field m.laws c.args.word.now c.requires.long c.requires.short c.args.s c.requires.told c.requires.unclean c.requires.singular
+      one_zero g.F.Field.field m.laws c.args.word.now c.requires.told.long c.requires.told.short c.args.s c.requires.told.values c.requires.unclean c.requires.singular
           (c.is_zero.ensures.yes c.if-is_zero.true),
     )
 
@@ -18,7 +18,7 @@ returns-in_err-root g c =
     let m = g.met.F.Field in
     rw c.from_residual.ensures (
       refl,
-      one_missed g.F.Field.field m.laws c.args.word.now c.requires.long c.requires.short c.args.s c.requires.told c.requires.unclean c.requires.singular
+      one_missed g.F.Field.field m.laws c.args.word.now c.requires.told.long c.requires.told.short c.args.s c.requires.told.values c.requires.unclean c.requires.singular
           c.zero.result c.zero.ensures (λ k l h e. c.in_err-root.ensures k (omega (arith, c.last.ensures.exponent)) h e),
     )
 
@@ -27,7 +27,7 @@ returns-then-not-step_by g c =
     let m = g.met.F.Field in
     let found = c.in_ok-root.ensures in (
       refl,
-      one_wrong g.F.Field.field m.laws c.args.word.now c.requires.long c.requires.short c.args.s c.requires.told c.requires.unclean c.requires.singular
+      one_wrong g.F.Field.field m.laws c.args.word.now c.requires.told.long c.requires.told.short c.args.s c.requires.told.values c.requires.unclean c.requires.singular
           c.zero.result _ c.zero.ensures found.root (c.step_by.ensures.no c.if-not-step_by.true),
     )
 
@@ -43,7 +43,7 @@ returns g c =
     let steps = c.step_by.ensures.yes c.if-not-step_by.false in
     let nonzero = c.is_zero.ensures.no c.if-is_zero.false in
     let inside : length w - 1 - e < length w = omega (arith, found.below) in
-    let near = one_right K m.laws w c.requires.long c.requires.short s c.requires.told c.zero.result c.in_ok-root.root.value e
+    let near = one_right K m.laws w c.requires.told.long c.requires.told.short s c.requires.told.values c.zero.result c.in_ok-root.root.value e
     c.zero.ensures nonzero found.root steps.0 steps.1 found.below found.is in
     let named = names_one c.one.result p c.one.ensures.0 c.one.ensures.1 ∙ sym (differing_one K m.laws w p s.s0 inside nonzero) in
     subst (λ v. WithinTwo K w v × (places c.one.result ≡ differing K.number v w)) (sym c.alter.ensures) (near, named)

@@ -11,7 +11,7 @@ returns-in_err-later g c =
     let m = g.met.F.Field in
     rw c.from_residual.ensures (
       refl,
-      two_first g.F.Field.field m.laws c.args.word.now c.requires.long c.requires.short c.args.s c.requires.told c.requires.regular c.args.t c.requires.shape
+      two_first g.F.Field.field m.laws c.args.word.now c.requires.told.long c.requires.told.short c.args.s c.requires.told.values c.requires.regular c.args.t c.requires.shape
           (λ k l h e. c.in_err-later.ensures k (omega (arith, c.last.ensures.exponent)) h e),
     )
 
@@ -20,7 +20,7 @@ returns-in_err-earlier g c =
     let m = g.met.F.Field in
     rw c.from_residual-in_err-earlier.ensures (
       refl,
-      two_second g.F.Field.field m.laws c.args.word.now c.requires.long c.requires.short c.args.s c.requires.told c.requires.regular c.args.t c.requires.shape
+      two_second g.F.Field.field m.laws c.args.word.now c.requires.told.long c.requires.told.short c.args.s c.requires.told.values c.requires.regular c.args.t c.requires.shape
           c.in_ok-later.later.exponent
           (λ k l h e. c.in_ok-later.ensures.first k (omega (arith, c.last.ensures.exponent)) h e)
           (λ k l h e. c.in_err-earlier.ensures k (omega (arith, c.next.ensures.exponent)) h e),
@@ -39,10 +39,10 @@ returns g c =
     let p = c.error_at-error.result in
     let q = c.add-other.result in
     let second = m.sums _ _ _ c.add-other.ensures in
-    let near = two_right K m.laws w c.requires.long c.requires.short c.args.s c.requires.told c.requires.regular c.args.t c.requires.shape e f
+    let near = two_right K m.laws w c.requires.told.long c.requires.told.short c.args.s c.requires.told.values c.requires.regular c.args.t c.requires.shape e f
     c.in_ok-earlier.earlier.value c.in_ok-later.later.value p q ef earlier.below earlier.is later.is
     earlier.root later.root c.error_at-error.ensures second in
-    let nonzero = two_nonzero K m.laws w c.requires.long c.requires.short c.args.s c.requires.told c.requires.regular c.args.t c.requires.shape e f
+    let nonzero = two_nonzero K m.laws w c.requires.told.long c.requires.told.short c.args.s c.requires.told.values c.requires.regular c.args.t c.requires.shape e f
     c.in_ok-earlier.earlier.value c.in_ok-later.later.value p q ef earlier.below earlier.is later.is
     earlier.root later.root c.error_at-error.ensures second in
     let rising : length w - 1 - f < length w - 1 - e = omega (arith, earlier.below) in
