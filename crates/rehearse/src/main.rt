@@ -15,6 +15,7 @@ mod script;
 use blocks::{load_all, sample_blocks};
 use fault::Fault;
 use field::FieldName;
+use layout::LINES;
 use rehearsal::rehearse;
 use script::{Command, parse_line};
 use sender::Sender;
@@ -24,17 +25,11 @@ use std::process::ExitCode;
 use std::{env, fs};
 use transfer::Step;
 
-// How many lines a field has.
-const LINES: usize = 212;
-
 // Adds an offer of every line in turn.
 fn add_offers(steps: &mut Vec<Step>) -> Result<(), AllocError>
     ensures { elim result [ Ok _ ↦ steps.new.items ≡ steps.old.items ++ all_offers | Err _ ↦ Unit {0} ] }
 {
-    for line in 0..LINES {
-        steps.push(Step::Offer { line })?;
-    }
-    Ok(())
+    steps.extend((0..LINES).map(|line| Step::Offer { line }))
 }
 
 // Adds the steps of a command.
