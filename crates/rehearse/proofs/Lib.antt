@@ -1,3 +1,3 @@
-mod Folds
+mod Digits
 mod Loading
 mod Naming

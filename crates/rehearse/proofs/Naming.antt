@@ -3,15 +3,11 @@ use Rattle.std.proofs.Common.{◌≡◌, ℕ, ◌+◌, ◌-◌, ◌<◌, ◌≤�
 use denote.Param.Members.{Mut}
 use Rattle.std.specs.Fn.{Called}
 use Rattle.std.specs.Iterator.Adapters.{filter_map_source, filter_map_steps}
-use Rattle.std.specs.Range.{range_steps}
+use Rattle.std.proofs.iter.Yields.{nat_range_steps}
 use Rattle.std.specs.declared.iter.FilterMap.{FilterMap}
 use Rattle.std.specs.declared.ops.Range.{Range}
 use Rattle.layout.specs.Places.{ordinal_of}
 use Rattle.layout.specs.declared.block.BlockName.{BlockName}
-
--- The numbers of a range, from its start on.
-abbrev pub numbers : Range ℕ → Option ℕ → Range ℕ → Type 0
-numbers = range_steps (λ a b. b - a) (λ a b. b ≡ a + 1)
 
 -- What a call that names the block of a number answers.
 abbrev pub Names : ℕ → Option BlockName → Type 0
@@ -21,7 +17,7 @@ module _ {F : Type 0} (g : Mut F (ℕ × Unit {0}) (Option BlockName))
     (names : (p q : F) (i : ℕ) (r : Option BlockName) → Called g p (i, tt) r q → Names i r) where
   -- The next name is that of the start.
   pub named_on : (s t : FilterMap (Range ℕ) F) (name : BlockName) → (filter_map_source s).end ≡ 1356 →
-      filter_map_steps numbers g s (Some name) t →
+      filter_map_steps nat_range_steps g s (Some name) t →
       ((filter_map_source s).start < 1356) × (ordinal_of name.packet name.channel ≡ (filter_map_source s).start)
       × ((filter_map_source t).start ≡ (filter_map_source s).start + 1) × ((filter_map_source t).end ≡ 1356)
   named_on s t name end ([], None, f, before, folded, (none, left)) = absurd (true≢false (ap is_some none))
@@ -35,7 +31,7 @@ module _ {F : Type 0} (g : Mut F (ℕ × Unit {0}) (Option BlockName))
 
   -- There is one until the range has ended.
   pub named_all : (s t : FilterMap (Range ℕ) F) → (filter_map_source s).end ≡ 1356 →
-      filter_map_steps numbers g s None t → 1356 ≤ (filter_map_source s).start
+      filter_map_steps nat_range_steps g s None t → 1356 ≤ (filter_map_source s).start
   named_all s t end ([], None, f, (u, same, (last, (gap, stays))), folded, rest) =
       omega (arith, ap (λ (r : Range ℕ). r.start) same, ap (λ (r : Range ℕ). r.end) same, gap, end)
   named_all s t end ([], Some i, f, before, folded, (called, some)) = absurd (true≢false (sym some))
