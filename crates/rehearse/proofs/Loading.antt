@@ -1,5 +1,5 @@
 -- Blocks that are loaded one behind the other stand in a sender's memory as they were given.
-use Rattle.std.proofs.Common.{◌≡◌, ℕ, ◌+◌, ◌-◌, ◌*◌, ◌/◌, ◌%◌, ◌<◌, ◌≤◌, ◌⊎◌, Bool, true, false, cond, List, ◌++◌, length, take, drop, set, is_ok, None, Ok, Err, Result, sym, refl, ap, ◌∙◌, subst, inl, inr, true≢false, append_assoc, arith, length-append, drop-drop, drop_at, length-drop, length-take-le, take_all, take_at, take-add}
+use Rattle.std.proofs.Common.{◌≡◌, ℕ, ◌+◌, ◌*◌, ◌<◌, ◌≤◌, ◌⊎◌, Bool, true, false, cond, List, ◌++◌, length, take, drop, set, is_ok, None, Ok, Err, Result, sym, refl, ap, ◌∙◌, subst, inl, inr, true≢false, append_assoc, arith, length-append, drop-drop, drop_at, length-drop, length-take-le, take_all, take_at, take-add}
 use lib.Seq.{take-set-le}
 use Rattle.std.proofs.lemmas.Bool.{eqb-true}
 use Rattle.std.specs.declared.slice.ChunksExact.{ChunksExact}

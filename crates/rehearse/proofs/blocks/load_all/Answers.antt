@@ -1,4 +1,4 @@
-use Rattle.std.proofs.Common.{◌≡◌, ◌+◌, ◌*◌, ◌++◌, ◌∙◌, take, drop, sym, ap, subst, length, length-drop, arith}
+use Rattle.std.proofs.Common.{◌≡◌, ◌*◌, ◌++◌, ◌∙◌, take, drop, sym, ap, subst, length, arith}
 use Rattle.rehearse.proofs.Loading.{left_on, loaded_all, loaded_on, none_left, took_length}
 use Rattle.rehearse.proofs.Naming.{named_all, named_on}
 use Rattle.rehearse.proofs.blocks.load_all.Goals as goal
