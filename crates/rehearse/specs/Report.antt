@@ -3,7 +3,7 @@ use Rattle.std.specs.Prelude.{ℕ, ◌+◌, ◌-◌, ◌^◌, min, Bool, false, 
 use Rattle.std.specs.List.{join_with_byte}
 use Rattle.codec.specs.Mend.{places}
 use Rattle.codec.specs.declared.record.MendRecord.{MendRecord}
-use Rattle.codewords.specs.Verdicts.{by_places, verdict_fields}
+use Rattle.codewords.specs.Verdicts.{by_places, line_of_fields, verdict_fields}
 use Rattle.denial.specs.Denials.{shown_of}
 use Rattle.denial.specs.declared.Denial.{Denial}
 use Rattle.denial.specs.declared.Reason.{Reason}
@@ -34,12 +34,6 @@ abbrev pub fate_of : Result MendRecord Denial → Result Fate Denial
 fate_of (Ok mends) = Ok (Given mends)
 fate_of (Err d) = by_reason d.reason d
 
--- Fields with one space between them, and byte 10 at the end.
-abbrev pub ended : List (List ℕ) → List ℕ
-ended [] = 10 ∷ []
-ended (field ∷ []) = field ++ (10 ∷ [])
-ended (field ∷ next ∷ fields) = field ++ (32 ∷ ended (next ∷ fields))
-
 -- The line of a step that was denied.
 abbrev pub step_text : ℕ → Denial → List ℕ
 step_text step d = codes "step " ++ (decimal step ++ (codes " denied " ++ (shown_of d ++ codes "\n")))
@@ -60,10 +54,13 @@ is_clean (Given mends) = mends.count == 0
 is_clean (Missing line) = false
 is_clean Lost = false
 
+-- The line that tells of a block by its packet and channel.
+abbrev pub named : ℕ → ℕ → Fate → List ℕ
+named packet channel fate = line_of_fields (codes "block" ∷ decimal packet ∷ decimal channel ∷ fate_fields fate)
+
 -- The line of a block; a clean one has none.
 abbrev pub block_text : ℕ → ℕ → Fate → List ℕ
-block_text packet channel fate =
-    cond (is_clean fate) [] (ended (codes "block" ∷ decimal packet ∷ decimal channel ∷ fate_fields fate))
+block_text packet channel fate = cond (is_clean fate) [] (named packet channel fate)
 
 -- More of what is counted, in 64 bits.
 abbrev pub more : ℕ → ℕ → ℕ
