@@ -1,2 +1,3 @@
-mod Folds
+mod Digits
 mod Loading
+mod Naming

@@ -1,9 +1,12 @@
 -- Blocks that are loaded one behind the other stand in a sender's memory as they were given.
-use Rattle.std.proofs.Common.{◌≡◌, ℕ, ◌+◌, ◌-◌, ◌*◌, ◌/◌, ◌%◌, ◌<◌, ◌≤◌, Bool, true, false, cond, List, ◌++◌, length, take, drop, set, is_ok, Ok, Err, Result, sym, refl, ap, ◌∙◌, subst, true≢false, append_assoc, arith, length-append, length-drop, length-take-le, take_all, take_at, take-add}
+use Rattle.std.proofs.Common.{◌≡◌, ℕ, ◌+◌, ◌*◌, ◌<◌, ◌≤◌, ◌⊎◌, Bool, true, false, cond, List, ◌++◌, length, take, drop, set, is_ok, None, Ok, Err, Result, sym, refl, ap, ◌∙◌, subst, inl, inr, true≢false, append_assoc, arith, length-append, drop-drop, drop_at, length-drop, length-take-le, take_all, take_at, take-add}
 use lib.Seq.{take-set-le}
 use Rattle.std.proofs.lemmas.Bool.{eqb-true}
+use Rattle.std.specs.declared.slice.ChunksExact.{ChunksExact}
+use Rattle.std.specs.Slice.Iter.{chunks_exact_rest, chunks_exact_size, chunks_exact_steps}
 use Rattle.denial.specs.declared.Denial.{Denial}
-use Rattle.sender.specs.Memory.{fits, index_of, load_at, stored}
+use Rattle.layout.specs.Places.{ordinal_of}
+use Rattle.sender.specs.Memory.{fits, load_at, stored}
 
 -- What is not refused at the first test has passed it.
 passed : (b : Bool) (x : Result (Unit {0}) Denial) (d : Denial) → is_ok (cond b x (Err d)) ≡ true → b ≡ true
@@ -25,19 +28,30 @@ stored_front m block i h size full =
     ∙ take_at (front ++ block) rest (219 * i + 219)
     (omega (arith, length-append front block, length-take-le (219 * i) m (omega (arith, h, size)), full))
 
-pub loaded_on : (m n bs : List ℕ) (i packet channel k : ℕ) → i < 1356 → length m ≡ 298320 → length bs ≡ 296964 →
-    packet ≡ i / 2 → channel ≡ 1 - i % 2 → k ≡ 219 → take (219 * i) m ≡ take (219 * i) bs →
-    n ≡ stored m packet channel (take k (drop (219 * i) bs)) → take (219 * (i + 1)) n ≡ take (219 * (i + 1)) bs
-loaded_on m n bs i packet channel k h size full p c width front is =
-    let block = take k (drop (219 * i) bs) in
-    let index : index_of packet channel ≡ i = omega (arith, p, c) in
+-- The block with so many before it in the stream, stored behind those.
+pub loaded_on : (m n bs block rest : List ℕ) (i packet channel : ℕ) → i < 1356 → length m ≡ 298320 →
+    ordinal_of packet channel ≡ i → drop (219 * i) bs ≡ block ++ rest → length block ≡ 219 → take (219 * i) m ≡ take (219 * i) bs →
+    n ≡ stored m packet channel block → take (219 * (i + 1)) n ≡ take (219 * (i + 1)) bs
+loaded_on m n bs block rest i packet channel h size index left whole front is =
     let next : 219 * (i + 1) ≡ 219 * i + 219 = omega arith in
-    let whole : length block ≡ 219 = length-take-le k (drop (219 * i) bs) (omega (arith, width, h, full, length-drop (219 * i) bs)) ∙ width in
     let there : take (219 * i + 219) n ≡ take (219 * i) m ++ block =
     ap (take (219 * i + 219)) (is ∙ ap (λ j. set (take (219 * j) m ++ (block ++ drop (219 * j + 219) m)) (296964 + j) 1) index)
     ∙ stored_front m block i h size whole in
+    let taken : take 219 (drop (219 * i) bs) ≡ block = ap (take 219) left ∙ take_at block rest 219 whole in
     subst (λ j. take j n ≡ take j bs) (sym next)
-    (there ∙ ap (λ r. r ++ block) front ∙ ap (λ j. take (219 * i) bs ++ take j (drop (219 * i) bs)) width ∙ sym (take-add (219 * i) 219 bs))
+    (there ∙ ap (λ r. r ++ block) front ∙ ap (λ r. take (219 * i) bs ++ r) (sym taken) ∙ sym (take-add (219 * i) 219 bs))
+
+-- What is left behind it.
+pub left_on : (bs block rest : List ℕ) (i : ℕ) → drop (219 * i) bs ≡ block ++ rest → length block ≡ 219 → rest ≡ drop (219 * (i + 1)) bs
+left_on bs block rest i left whole =
+    sym (ap (λ k. drop k bs) (omega arith) ∙ sym (drop-drop 219 (219 * i) bs) ∙ ap (drop 219) left ∙ drop_at block rest 219 whole)
+
+-- Where there is no name more or no chunk more, every block was taken.
+pub none_left : {Ended : Type 0} (bs : List ℕ) (i : ℕ) (s : ChunksExact ℕ) → length bs ≡ 296964 → chunks_exact_rest s ≡ drop (219 * i) bs →
+    chunks_exact_size s ≡ 219 → (Ended → 1356 ≤ i) → Ended ⊎ ((t : ChunksExact ℕ) × chunks_exact_steps s None t) → 1356 ≤ i
+none_left bs i s full left size named (inl ended) = named ended
+none_left bs i s full left size named (inr (t, (same, (short, stays), rest))) =
+    omega (arith, short, size, ap length left, length-drop (219 * i) bs, full)
 
 pub loaded_all : (m bs : List ℕ) (i : ℕ) → i ≤ 1356 → 1356 ≤ i → length bs ≡ 296964 → take (219 * i) m ≡ take (219 * i) bs → take 296964 m ≡ bs
 loaded_all m bs i low high full front =

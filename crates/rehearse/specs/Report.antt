@@ -1,20 +1,16 @@
 -- What became of a block, and the lines of the report.
-use Rattle.std.specs.Prelude.{ℕ, ◌+◌, ◌-◌, ◌^◌, min, List, [], ◌∷◌, ◌++◌, Ok, Err, codes, decimal, Result}
+use Rattle.std.specs.Prelude.{ℕ, ◌+◌, ◌-◌, ◌^◌, min, Bool, false, cond, List, [], ◌∷◌, ◌++◌, Ok, Err, codes, decimal, Result, ◌==◌}
+use Rattle.std.specs.List.{join_with_byte}
 use Rattle.codec.specs.Mend.{places}
 use Rattle.codec.specs.declared.record.MendRecord.{MendRecord}
+use Rattle.codewords.specs.Verdicts.{by_places, line_of_fields, verdict_fields}
 use Rattle.denial.specs.Denials.{shown_of}
 use Rattle.denial.specs.declared.Denial.{Denial}
 use Rattle.denial.specs.declared.Reason.{Reason}
 use Rattle.denial.specs.declared.Reason.TheVariants as reason
 use Rattle.rehearse.specs.declared.report.Fate.{Fate}
-use Rattle.rehearse.specs.declared.report.Fate.TheVariants.{Clean, MendedOne, MendedTwo, Missing, Lost}
+use Rattle.rehearse.specs.declared.report.Fate.TheVariants.{Given, Missing, Lost}
 use Rattle.rehearse.specs.declared.report.Tally.{Tally}
-
--- The fate of a block that was given, by the places at which it was mended.
-abbrev pub by_places : List ℕ → Fate
-by_places [] = Clean
-by_places (p ∷ []) = MendedOne p
-by_places (p ∷ q ∷ ps) = MendedTwo p q
 
 -- The fate that a refusal tells, by its reason: one for a line that is missing, one for a block that is lost, and none for any other.
 abbrev pub by_reason : Reason → Denial → Result Fate Denial
@@ -35,51 +31,59 @@ by_reason reason.Lost d = Ok Lost
 
 -- The fate that an answer tells.
 abbrev pub fate_of : Result MendRecord Denial → Result Fate Denial
-fate_of (Ok mends) = Ok (by_places (places mends))
+fate_of (Ok mends) = Ok (Given mends)
 fate_of (Err d) = by_reason d.reason d
-
--- Fields with one space between them, and byte 10 at the end.
-abbrev pub ended : List (List ℕ) → List ℕ
-ended [] = 10 ∷ []
-ended (field ∷ []) = field ++ (10 ∷ [])
-ended (field ∷ next ∷ fields) = field ++ (32 ∷ ended (next ∷ fields))
 
 -- The line of a step that was denied.
 abbrev pub step_text : ℕ → Denial → List ℕ
 step_text step d = codes "step " ++ (decimal step ++ (codes " denied " ++ (shown_of d ++ codes "\n")))
 
--- What is told of a block after its packet and channel.
+-- What is told of a block after its packet and channel: the verdict that the mending makes, where it was given.
 abbrev pub fate_fields : Fate → List (List ℕ)
-fate_fields Clean = codes "clean" ∷ []
-fate_fields (MendedOne place) = codes "mended" ∷ decimal place ∷ []
-fate_fields (MendedTwo first second) = codes "mended" ∷ decimal first ∷ decimal second ∷ []
+fate_fields (Given mends) = verdict_fields (by_places (places mends))
 fate_fields (Missing line) = codes "missing" ∷ decimal line ∷ []
 fate_fields Lost = codes "lost" ∷ []
 
+-- The same with one space between them.
+abbrev pub fate_words : Fate → List ℕ
+fate_words fate = join_with_byte 32 (fate_fields fate)
+
+-- A block was given, and nothing was mended.
+abbrev pub is_clean : Fate → Bool
+is_clean (Given mends) = mends.count == 0
+is_clean (Missing line) = false
+is_clean Lost = false
+
+-- The line that tells of a block by its packet and channel.
 abbrev pub named : ℕ → ℕ → Fate → List ℕ
-named packet channel fate = ended (codes "block" ∷ decimal packet ∷ decimal channel ∷ fate_fields fate)
+named packet channel fate = line_of_fields (codes "block" ∷ decimal packet ∷ decimal channel ∷ fate_fields fate)
 
 -- The line of a block; a clean one has none.
 abbrev pub block_text : ℕ → ℕ → Fate → List ℕ
-block_text packet channel Clean = []
-block_text packet channel (MendedOne place) = named packet channel (MendedOne place)
-block_text packet channel (MendedTwo first second) = named packet channel (MendedTwo first second)
-block_text packet channel (Missing line) = named packet channel (Missing line)
-block_text packet channel Lost = named packet channel Lost
+block_text packet channel fate = cond (is_clean fate) [] (named packet channel fate)
 
 -- More of what is counted, in 64 bits.
 abbrev pub more : ℕ → ℕ → ℕ
 more n by = min (n + by) (2 ^ 64 - 1)
 
+-- The tally with one more block that was given, so many bytes of it mended.
+abbrev pub given_more : Tally → ℕ → Tally
+given_more t mended =
+    cond (mended == 0)
+    (record { clean = more t.clean 1; mended = t.mended; missing = t.missing; lost = t.lost; bytes = t.bytes })
+    (record { clean = t.clean; mended = more t.mended 1; missing = t.missing; lost = t.lost; bytes = more t.bytes mended })
+
 -- The tally with one more block of this fate.
 abbrev pub counted : Tally → Fate → Tally
-counted t Clean = record { clean = more t.clean 1; mended = t.mended; missing = t.missing; lost = t.lost; bytes = t.bytes }
-counted t (MendedOne p) = record { clean = t.clean; mended = more t.mended 1; missing = t.missing; lost = t.lost; bytes = more t.bytes 1 }
-counted t (MendedTwo p q) = record { clean = t.clean; mended = more t.mended 1; missing = t.missing; lost = t.lost; bytes = more t.bytes 2 }
+counted t (Given mends) = given_more t mends.count
 counted t (Missing l) = record { clean = t.clean; mended = t.mended; missing = more t.missing 1; lost = t.lost; bytes = t.bytes }
 counted t Lost = record { clean = t.clean; mended = t.mended; missing = t.missing; lost = more t.lost 1; bytes = t.bytes }
 
+-- What is told of all blocks after their number.
+abbrev pub tally_words : Tally → List ℕ
+tally_words t =
+    decimal t.clean ++ (codes " clean, " ++ (decimal t.mended ++ (codes " mended, " ++ (decimal t.missing ++ (codes " missing, " ++ (decimal t.lost ++ (codes " lost, " ++ (decimal t.bytes ++ codes " bytes mended"))))))))
+
 -- The last line.
 abbrev pub tally_text : ℕ → Tally → List ℕ
-tally_text blocks t =
-    decimal blocks ++ (codes " blocks: " ++ (decimal t.clean ++ (codes " clean, " ++ (decimal t.mended ++ (codes " mended, " ++ (decimal t.missing ++ (codes " missing, " ++ (decimal t.lost ++ (codes " lost, " ++ (decimal t.bytes ++ codes " bytes mended\n"))))))))))
+tally_text blocks t = decimal blocks ++ (codes " blocks: " ++ (tally_words t ++ codes "\n"))

@@ -1,7 +1,7 @@
 //! Why nothing was rehearsed.
 use crate::script::Wrong;
 use denial::Denial;
-use sender::{BASIC, BLOCKS};
+use layout::{BASIC, BLOCKS};
 use std::alloc::AllocError;
 use std::io;
 use thiserror::Error;

@@ -1,21 +1,21 @@
 //! Lays a field out, carries out a script of damage and offers, and reports what became of every block.
 #![tactic(auto)]
 
-ghost use Rattle.std.specs.Prelude.{◌≡◌, true, ◌++◌, Ok, Err};
-ghost use Rattle.carriers.specs.Rates.{is_field};
+ghost use Rattle.std.specs.Prelude.{◌≡◌, ◌++◌, Ok, Err};
 ghost use Rattle.rehearse.specs.Script.{all_offers, steps_of};
 
 mod blocks;
 mod fault;
+mod field;
 mod numbers;
 mod rehearsal;
 mod report;
 mod script;
 
 use blocks::{load_all, sample_blocks};
-use carriers::field_start;
 use fault::Fault;
-use numbers::number;
+use field::FieldName;
+use layout::LINES;
 use rehearsal::rehearse;
 use script::{Command, parse_line};
 use sender::Sender;
@@ -25,17 +25,11 @@ use std::process::ExitCode;
 use std::{env, fs};
 use transfer::Step;
 
-// How many lines a field has.
-const LINES: usize = 212;
-
 // Adds an offer of every line in turn.
 fn add_offers(steps: &mut Vec<Step>) -> Result<(), AllocError>
     ensures { elim result [ Ok _ ↦ steps.new.items ≡ steps.old.items ++ all_offers | Err _ ↦ Unit {0} ] }
 {
-    for line in 0..LINES {
-        steps.push(Step::Offer { line })?;
-    }
-    Ok(())
+    steps.extend((0..LINES).map(|line| Step::Offer { line }))
 }
 
 // Adds the steps of a command.
@@ -50,18 +44,11 @@ fn add_steps(steps: &mut Vec<Step>, command: Command) -> Result<(), AllocError>
 }
 
 // Reads the script to its end.
-fn read_script<R: BufRead>(heap: Global, input: &mut R) -> Result<Vec<Step>, Fault> {
-    let mut steps = Vec::new(heap);
-    let mut line = Vec::new(heap);
-    for number in 1..u64::MAX {
-        line.clear();
-        if input.read_until(b'\n', &mut line)? == 0 {
-            break;
-        }
-        match parse_line(line.as_slice()) {
-            Ok(command) => add_steps(&mut steps, command)?,
-            Err(wrong) => return Err(Fault::Script(number, wrong)),
-        }
+fn read_script<R: BufRead + Drop>(alloc: Global, input: R) -> Result<Vec<Step>, Fault> {
+    let mut steps = Vec::new(alloc);
+    for (number, line) in (1..).zip(input.split(alloc, b'\n')) {
+        let command = parse_line(line?.as_slice()).map_err(|wrong| Fault::Script(number, wrong))?;
+        add_steps(&mut steps, command)?;
     }
     Ok(steps)
 }
@@ -74,21 +61,6 @@ fn blocks_of(rt: &HostRuntime, path: Option<String>) -> Result<Vec<u8>, Fault> {
     fs::read(rt, path.as_str()).map_err(Fault::Unread)
 }
 
-// The rate and the field that two words name.
-fn field_of(rate: &str, field: &str) -> Result<(usize, usize), Fault>
-    ensures { elim result [ Ok named ↦ is_field named.0 named.1 ≡ true | Err _ ↦ Unit {0} ] }
-{
-    let rate = number(rate.as_bytes()).map_err(|_| Fault::Rate)?;
-    let field = number(field.as_bytes()).map_err(|_| Fault::Field)?;
-    if field_start(rate, 0).is_none() {
-        return Err(Fault::Rate);
-    }
-    if field_start(rate, field).is_none() {
-        return Err(Fault::Field);
-    }
-    Ok((rate, field))
-}
-
 fn run(rt: &HostRuntime) -> Result<(), Fault> {
     let mut words = env::args(rt)?.skip(1);
     let (Some(rate), Some(field), path, None) = (
@@ -99,13 +71,13 @@ fn run(rt: &HostRuntime) -> Result<(), Fault> {
     ) else {
         return Err(Fault::Usage);
     };
-    let (rate, field) = field_of(rate.as_str(), field.as_str())?;
+    let field = FieldName::read(rate.as_str(), field.as_str())?;
     let blocks = blocks_of(rt, path)?;
     let mut memory = vec![in rt.alloc(); 0u8; sender::MEMORY]?;
     let mut sender = Sender::begin(memory.as_mut_slice());
     load_all(&mut sender, blocks.as_slice())?;
-    let steps = read_script(rt.alloc(), &mut BufReader::new(rt.alloc(), rt.stdin())?)?;
-    let text = rehearse(rt.alloc(), rate, field, &sender, steps.as_slice())?;
+    let steps = read_script(rt.alloc(), BufReader::new(rt.alloc(), rt.stdin())?)?;
+    let text = rehearse(rt.alloc(), field, &sender, steps.as_slice())?;
     rt.stdout().write_all(text.as_bytes())?;
     Ok(())
 }

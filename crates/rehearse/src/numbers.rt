@@ -44,11 +44,7 @@ fn number_in(base: u8, digits: &[u8]) -> Result<usize, Wrong>
     if digits.is_empty() {
         return Err(Wrong::Number);
     }
-    let mut number = Ok(0);
-    for character in digits {
-        number = append(base, number, *character);
-    }
-    number
+    digits.iter().fold(Ok(0), |number, character| append(base, number, *character))
 }
 
 /// A number that a word writes.

@@ -1,52 +1,65 @@
 //! The lines of the report.
-ghost use Rattle.std.specs.Prelude.{◌≡◌, IfOk, string_bytes};
-ghost use Rattle.codec.specs.Mend.{places};
-ghost use Rattle.rehearse.specs.Report.{block_text, by_places, counted, fate_of, step_text, tally_text};
+ghost use Rattle.std.specs.Prelude.{◌≡◌, ◌++◌, Some, IfOk, string_bytes};
+ghost use Rattle.rehearse.specs.Report.{block_text, by_reason, counted, fate_words, is_clean, step_text, tally_text, tally_words};
 
 use codec::MendRecord;
+use codewords::Verdict;
 use denial::{Denial, Reason};
-use std::alloc::{AllocError, Global};
+use layout::{BLOCKS, BlockName};
+use std::alloc::AllocError;
+use std::fmt;
 
 /// What became of a block.
 #[derive(Clone, Copy)]
 pub enum Fate {
-    Clean,
-    MendedOne(u8),
-    MendedTwo(u8, u8),
+    /// It was given, mended so.
+    Given(MendRecord),
     /// This line of it is missing.
     Missing(usize),
     Lost,
 }
 
-// The fate of a block that was given.
-fn given(mends: MendRecord) -> Fate
-    ensures { result ≡ by_places (places mends) }
-{
-    match mends.count() {
-        0 => Fate::Clean,
-        1 => Fate::MendedOne(mends.first()),
-        _ => Fate::MendedTwo(mends.first(), mends.second()),
+impl Fate {
+    fn is_clean(self) -> bool
+        ensures { result ≡ is_clean self }
+    {
+        match self {
+            Fate::Given(mends) => mends.count() == 0,
+            _ => false,
+        }
     }
 }
 
-impl Fate {
-    /// The fate that an answer tells; refused where it was refused for another reason.
-    pub fn of(answer: Result<MendRecord, Denial>) -> Result<Fate, Denial>
-        ensures { result ≡ fate_of answer }
-    {
-        match answer {
-            Ok(mends) => Ok(given(mends)),
-            Err(denial) => match denial.reason {
-                Reason::Missing => Ok(Fate::Missing(denial.place.0)),
-                Reason::Lost => Ok(Fate::Lost),
-                _ => Err(denial),
-            },
+/// The fate that a refusal tells; the refusal itself where it was for another reason.
+impl TryFrom<Denial> for Fate {
+    type Error = Denial;
+
+    ghost try_from_gives = { λ denial fate. fate ≡ by_reason denial.reason denial };
+
+    fn try_from(denial: Denial) -> Result<Fate, Denial> {
+        match denial.reason {
+            Reason::Missing => Ok(Fate::Missing(denial.place.0)),
+            Reason::Lost => Ok(Fate::Lost),
+            _ => Err(denial),
+        }
+    }
+}
+
+// What is told of a block after its packet and channel.
+impl fmt::Display for Fate {
+    ghost output = { λ fate. Some (fate_words fate) };
+
+    fn fmt<W: fmt::Write>(&self, f: &mut fmt::Formatter<W>) -> fmt::Result {
+        match self {
+            Fate::Given(mends) => Verdict::from(*mends).fmt(f),
+            Fate::Missing(line) => write!(f, "missing {line}"),
+            Fate::Lost => write!(f, "lost"),
         }
     }
 }
 
 /// How many blocks had each fate, and how many bytes were mended.
-#[derive(Clone, Copy)]
+#[derive(Clone, Copy, Default)]
 pub struct Tally {
     clean: usize,
     mended: usize,
@@ -56,75 +69,64 @@ pub struct Tally {
 }
 
 impl Tally {
-    pub fn new() -> Tally {
-        Tally {
-            clean: 0,
-            mended: 0,
-            missing: 0,
-            lost: 0,
-            bytes: 0,
-        }
-    }
-
     /// Counts one more block.
     pub fn count(&mut self, fate: Fate)
         ensures { self.new ≡ counted self.old fate }
     {
         match fate {
-            Fate::Clean => self.clean = self.clean.saturating_add(1),
-            Fate::MendedOne(_) => {
-                self.mended = self.mended.saturating_add(1);
-                self.bytes = self.bytes.saturating_add(1);
-            }
-            Fate::MendedTwo(_, _) => {
-                self.mended = self.mended.saturating_add(1);
-                self.bytes = self.bytes.saturating_add(2);
-            }
+            Fate::Given(mends) => match mends.count() {
+                0 => self.clean = self.clean.saturating_add(1),
+                mended => {
+                    self.mended = self.mended.saturating_add(1);
+                    self.bytes = self.bytes.saturating_add(usize::from(mended));
+                }
+            },
             Fate::Missing(_) => self.missing = self.missing.saturating_add(1),
             Fate::Lost => self.lost = self.lost.saturating_add(1),
         }
     }
 }
 
-/// The line of a step that was denied.
-pub fn step_line(heap: Global, step: usize, denial: Denial) -> Result<String, AllocError>
-    ensures { IfOk result (λ s. string_bytes s ≡ step_text step denial) }
-{
-    format!(in heap; "step {step} denied {denial}\n")
-}
+// What is told of all blocks after their number.
+impl fmt::Display for Tally {
+    ghost output = { λ tally. Some (tally_words tally) };
 
-/// The line of a block; none where it is clean.
-pub fn block_line(
-    heap: Global,
-    packet: usize,
-    channel: usize,
-    fate: Fate,
-) -> Result<String, AllocError>
-    ensures { IfOk result (λ s. string_bytes s ≡ block_text packet channel fate) }
-{
-    match fate {
-        Fate::Clean => Ok(String::new(heap)),
-        Fate::MendedOne(place) => format!(in heap; "block {packet} {channel} mended {place}\n"),
-        Fate::MendedTwo(first, second) => format!(in heap;
-            "block {packet} {channel} mended {first} {second}\n"
-        ),
-        Fate::Missing(line) => format!(in heap; "block {packet} {channel} missing {line}\n"),
-        Fate::Lost => format!(in heap; "block {packet} {channel} lost\n"),
+    fn fmt<W: fmt::Write>(&self, f: &mut fmt::Formatter<W>) -> fmt::Result {
+        let Tally {
+            clean,
+            mended,
+            missing,
+            lost,
+            bytes,
+        } = self;
+        write!(
+            f,
+            "{clean} clean, {mended} mended, {missing} missing, {lost} lost, {bytes} bytes mended"
+        )
     }
 }
 
-/// The last line.
-pub fn tally_line(heap: Global, blocks: usize, tally: Tally) -> Result<String, AllocError>
-    ensures { IfOk result (λ s. string_bytes s ≡ tally_text blocks tally) }
+/// Tells a step that was denied.
+pub fn tell_step(text: &mut String, step: usize, denial: Denial) -> Result<(), AllocError>
+    ensures { IfOk result (λ _. string_bytes text.new ≡ string_bytes text.old ++ step_text step denial) }
 {
-    let Tally {
-        clean,
-        mended,
-        missing,
-        lost,
-        bytes,
-    } = tally;
-    format!(in heap;
-        "{blocks} blocks: {clean} clean, {mended} mended, {missing} missing, {lost} lost, {bytes} bytes mended\n"
-    )
+    write!(text, "step {step} denied {denial}\n")
+}
+
+/// Tells a block, but not a clean one.
+pub fn tell_block(text: &mut String, name: BlockName, fate: Fate) -> Result<(), AllocError>
+    ensures { IfOk result (λ _. string_bytes text.new ≡ string_bytes text.old ++ block_text name.packet name.channel fate) }
+{
+    if fate.is_clean() {
+        return Ok(());
+    }
+    let (packet, channel) = (name.packet(), name.channel());
+    write!(text, "block {packet} {channel} {fate}\n")
+}
+
+/// The last line.
+pub fn tell_tally(text: &mut String, tally: Tally) -> Result<(), AllocError>
+    ensures { IfOk result (λ _. string_bytes text.new ≡ string_bytes text.old ++ tally_text 1356 tally) }
+{
+    write!(text, "{BLOCKS} blocks: {tally}\n")
 }

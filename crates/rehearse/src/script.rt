@@ -52,13 +52,16 @@ fn offer_of(line: &str) -> Result<Command, Wrong> {
 // The command that the words of a line make.
 fn parse_words(text: &str) -> Result<Command, Wrong> {
     let mut words = text.split_ascii_whitespace();
-    let verb = words.next();
-    match (verb, words.next(), words.next(), words.next(), words.next()) {
+    match (
+        words.next(),
+        words.next(),
+        words.next(),
+        words.next(),
+        words.next(),
+    ) {
         (None, _, _, _, _) => Ok(Command::Pass),
-        (Some(verb), Some(line), None, _, _) if verb == "offer" => offer_of(line),
-        (Some(verb), Some(line), Some(word), Some(value), None) if verb == "write" => write_of(
-            line, word, value,
-        ),
+        (Some("offer"), Some(line), None, _, _) => offer_of(line),
+        (Some("write"), Some(line), Some(word), Some(value), None) => write_of(line, word, value),
         _ => Err(Wrong::Command),
     }
 }
