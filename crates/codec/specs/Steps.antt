@@ -9,7 +9,6 @@ use Rattle.reed_solomon.specs.Code.{differing}
 use Rattle.codec.specs.declared.record.MendRecord.{MendRecord}
 use Rattle.codec.specs.declared.syndromes.Syndromes.{Syndromes}
 use Rattle.codec.specs.declared.roots.Trinomial.{Trinomial}
-use Rattle.codec.specs.declared.roots.Locator.{Locator}
 
 module _ {F : Type 0} (K : Arithmetic F) where
   open K use {zero as 𝟘, plus as ◌+◌, times as ◌*◌, alpha as α}
@@ -51,17 +50,17 @@ module _ {F : Type 0} (K : Arithmetic F) where
   abbrev pub NoRoot : Trinomial F → ℕ → ℕ → Type 0
   NoRoot t m n = (k : ℕ) → m ≤ k → k < n → trinomial_at t (power K α k) ≢ 𝟘
 
-  -- the locator is a power of alpha, with its exponent
-  abbrev pub IsPower : Locator F → Type 0
-  IsPower x = x.value ≡ power K α x.exponent
+  -- x is the e-th power of alpha
+  abbrev pub IsPower : ℕ → F → Type 0
+  IsPower e x = x ≡ power K α e
 
-  -- x is the first root among the powers from m to below n
-  pub record FirstRoot (t : Trinomial F) (m n : ℕ) (x : Locator F) : Type 0 where
-    pub from : m ≤ x.exponent
-    pub below : x.exponent < n
-    pub is : IsPower x
-    pub root : trinomial_at t x.value ≡ 𝟘
-    pub first : NoRoot t m x.exponent
+  -- x, the e-th power, is the first root among the powers from m to below n
+  pub record FirstRoot (t : Trinomial F) (m n e : ℕ) (x : F) : Type 0 where
+    pub from : m ≤ e
+    pub below : e < n
+    pub is : IsPower e x
+    pub root : trinomial_at t x ≡ 𝟘
+    pub first : NoRoot t m e
 
   -- what one attempt to mend w did, that left w'
   abbrev pub Attempt : List F → List F → Option MendRecord → Type 0

@@ -1,6 +1,7 @@
 //! The search for a root among the powers of alpha.
 ghost use Rattle.std.specs.Prelude.{◌≡◌, ◌+◌, ◌<◌, ◌≤◌, true, false, MatchOption, ◌≢◌};
-ghost use Rattle.codec.specs.Steps.{FirstRoot, IsPower, NoRoot, Terms, trinomial_at};
+ghost use Rattle.codec.specs.Steps.{FirstRoot, NoRoot, Terms, trinomial_at};
+ghost use Rattle.galois.specs.Field.{power};
 
 use galois::Field;
 
@@ -46,18 +47,17 @@ impl<F: Field> Trinomial<F> {
 }
 
 /// A power of alpha, which stands for the place whose symbol is the coefficient of X to that exponent.
-// `IsPower` is a clause and no ghost field: over one, at a type parameter, `Clone` and `Copy` would have to be written by hand.
-#[derive(Clone, Copy)]
-pub struct Locator<F> {
+#[derive(Drop)]
+pub struct Locator<F: Field> {
     pub exponent: usize,
     pub value: F,
+    ghost is: { value ≡ power F.field F.field.alpha exponent },
 }
 
 impl<F: Field> Locator<F> {
     // That of the last place.
     pub(crate) fn last() -> Locator<F>
-        ensures is { IsPower F.field result }
-        ensures exponent { result.exponent ≡ 0 }
+        ensures { result.exponent ≡ 0 }
     {
         Locator {
             exponent: 0,
@@ -66,12 +66,10 @@ impl<F: Field> Locator<F> {
     }
 
     // That of the place before.
-    pub(crate) fn next(self) -> Locator<F>
-        requires small { self.exponent < 255 }
-        requires is { IsPower F.field self }
-        ensures is { IsPower F.field result }
-        ensures exponent { result.exponent ≡ self.exponent + 1 }
-        ensures value { result.value ≡ F.field.times F.field.alpha self.value }
+    pub(crate) fn next(&self) -> Locator<F>
+        requires { self.now.exponent < 255 }
+        ensures exponent { result.exponent ≡ self.now.exponent + 1 }
+        ensures value { result.value ≡ F.field.times F.field.alpha self.now.value }
     {
         Locator {
             exponent: self.exponent + 1,
@@ -87,13 +85,12 @@ pub(crate) fn find_root<F: Field>(
     start: Locator<F>,
     n: usize,
 ) -> Option<Locator<F>>
-    requires is { IsPower F.field start }
-    requires short { n ≤ 255 }
-    ensures { MatchOption result (NoRoot F.field t start.exponent n) (λ x. FirstRoot F.field t start.exponent n x) }
+    requires { n ≤ 255 }
+    ensures { MatchOption result (NoRoot F.field t start.exponent n) (λ x. FirstRoot F.field t start.exponent n x.exponent x.value) }
 {
     let mut here = start;
-    let mut terms = t.terms_at(start.value);
-    for _ in start.exponent..n {
+    let mut terms = t.terms_at(here.value);
+    for _ in here.exponent..n {
         if terms.sum_is_zero() {
             return Some(here);
         }

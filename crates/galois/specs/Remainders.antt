@@ -74,12 +74,10 @@ tabled256 = record {
   small = lit< tt;
   sound = sound256;
   coded = coded256;
-  all_logs = refl;
   all_powers = refl;
   powers_are = power256;
   low = low256;
   high = high256;
-  all_products = (refl, refl, refl, refl);
   products_below = λ x h. all_below products256 256 x (at (below_row products256 256) 256 below256 x h);
   products_leave = left256;
 }
@@ -94,12 +92,10 @@ tabled16 = record {
   small = lit< tt;
   sound = sound16;
   coded = coded16;
-  all_logs = refl;
   all_powers = refl;
   powers_are = power16;
   low = low16;
   high = high16;
-  all_products = (refl, refl, refl, refl);
   products_below = λ x h. all_below products16 16 x (at (below_row products16 16) 16 below16 x h);
   products_leave = left16;
 }

@@ -26,12 +26,10 @@ pub record Tabled (size n P : ℕ) (of : ℕ → Element size) (logs powers : Li
   pub small : size ≤ 256
   pub sound : Sound n P (size - 1) (λ x. slice_index logs x)
   pub coded : Coded (Element size) (2 ^ suc n) (λ x. x.bits) of
-  pub all_logs : length logs ≡ size
   pub all_powers : length powers ≡ 2 * (size - 1)
   pub powers_are : (k : ℕ) → k < 2 * (size - 1) → slice_index powers k ≡ shifts n P k 1
   pub low : (x : ℕ) → x < 2 ^ n → (x * 2) % 256 ≡ shift n P x
   pub high : (x : ℕ) → 2 ^ n ≤ x → x < size → bit_xor ((x * 2) % 256) reduction ≡ shift n P x
-  pub all_products : (length products.k3 ≡ size) × (length products.k2 ≡ size) × (length products.k1 ≡ size) × (length products.k0 ≡ size)
   pub products_below : (x : ℕ) → x < size →
       (slice_index products.k3 x < size) × (slice_index products.k2 x < size) × (slice_index products.k1 x < size) × (slice_index products.k0 x < size)
   pub products_leave : (x : Element size) → Leaves (numbered n P of) x (row of products x.bits)

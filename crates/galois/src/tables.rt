@@ -31,7 +31,7 @@ pub trait Tables<const SIZE: usize> {
     const REDUCTION: u8;
 
     /// The logarithm of each number to the base alpha; that of 0 is not used.
-    fn logs() -> &'static [u8]
+    fn logs() -> &'static [u8; SIZE]
         ensures { result.now ≡ logs };
 
     /// The powers of alpha, twice round, so that the sum of two logarithms finds its power.
@@ -39,7 +39,7 @@ pub trait Tables<const SIZE: usize> {
         ensures { result.now ≡ powers };
 
     /// The products of each number with the coefficients of (X + 1)(X + alpha)(X + alpha^2)(X + alpha^3) below X^4.
-    fn products() -> Cubic<&'static [u8]>
+    fn products() -> Cubic<&'static [u8; SIZE]>
         ensures k3 { result.k3.now ≡ products.k3 }
         ensures k2 { result.k2.now ≡ products.k2 }
         ensures k1 { result.k1.now ≡ products.k1 }

@@ -37,7 +37,7 @@ impl Tables<16> for Element<16> {
 
     const REDUCTION: u8 = 0x13;
 
-    fn logs() -> &'static [u8] {
+    fn logs() -> &'static [u8; 16] {
         LOGS
     }
 
@@ -45,7 +45,7 @@ impl Tables<16> for Element<16> {
         POWERS
     }
 
-    fn products() -> Cubic<&'static [u8]> {
+    fn products() -> Cubic<&'static [u8; 16]> {
         Cubic {
             k3: TIMES_15,
             k2: TIMES_3,

@@ -142,7 +142,7 @@ impl Tables<256> for Element<256> {
 
     const REDUCTION: u8 = 0x1d;
 
-    fn logs() -> &'static [u8] {
+    fn logs() -> &'static [u8; 256] {
         LOGS
     }
 
@@ -150,7 +150,7 @@ impl Tables<256> for Element<256> {
         POWERS
     }
 
-    fn products() -> Cubic<&'static [u8]> {
+    fn products() -> Cubic<&'static [u8; 256]> {
         Cubic {
             k3: TIMES_15,
             k2: TIMES_54,

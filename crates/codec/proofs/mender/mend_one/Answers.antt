@@ -19,7 +19,7 @@ returns-in_err-root g c =
     rw c.from_residual.ensures (
       refl,
       one_missed g.F.Field.field m.laws c.args.word.now c.requires.told.long c.requires.told.short c.args.s c.requires.told.values c.requires.unclean c.requires.singular
-          c.zero.result c.zero.ensures (λ k l h e. c.in_err-root.ensures k (omega (arith, c.last.ensures.exponent)) h e),
+          c.zero.result c.zero.ensures (λ k l h e. c.in_err-root.ensures k (omega (arith, c.last.ensures)) h e),
     )
 
 pub returns-then-not-step_by : goal.returns-then-not-step_by

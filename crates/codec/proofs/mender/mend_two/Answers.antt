@@ -12,7 +12,7 @@ returns-in_err-later g c =
     rw c.from_residual.ensures (
       refl,
       two_first g.F.Field.field m.laws c.args.word.now c.requires.told.long c.requires.told.short c.args.s c.requires.told.values c.requires.regular c.args.t c.requires.shape
-          (λ k l h e. c.in_err-later.ensures k (omega (arith, c.last.ensures.exponent)) h e),
+          (λ k l h e. c.in_err-later.ensures k (omega (arith, c.last.ensures)) h e),
     )
 
 pub returns-in_err-earlier : goal.returns-in_err-earlier
@@ -22,7 +22,7 @@ returns-in_err-earlier g c =
       refl,
       two_second g.F.Field.field m.laws c.args.word.now c.requires.told.long c.requires.told.short c.args.s c.requires.told.values c.requires.regular c.args.t c.requires.shape
           c.in_ok-later.later.exponent
-          (λ k l h e. c.in_ok-later.ensures.first k (omega (arith, c.last.ensures.exponent)) h e)
+          (λ k l h e. c.in_ok-later.ensures.first k (omega (arith, c.last.ensures)) h e)
           (λ k l h e. c.in_err-earlier.ensures k (omega (arith, c.next.ensures.exponent)) h e),
     )
 
