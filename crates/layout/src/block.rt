@@ -6,10 +6,11 @@ ghost use Rattle.layout.specs.Places.{is_block, no_such, ordinal_of, stream_plac
 
 use denial::{Denial, Layer, Reason};
 
-// The last packet and the last channel.
-const LAST_PACKET: usize = 677;
+/// How many packets a field has.
+pub const PACKETS: usize = 678;
 
-const LAST_CHANNEL: usize = 1;
+// How many channels there are: each packet has a block of each.
+const CHANNELS: usize = 2;
 
 /// Bytes to a packet.
 pub const PACKET: usize = 448;
@@ -18,7 +19,7 @@ pub const PACKET: usize = 448;
 pub const BASIC: usize = 219;
 
 /// How many blocks a field has.
-pub const BLOCKS: usize = 1356;
+pub const BLOCKS: usize = CHANNELS * PACKETS;
 
 /// A block that a field has: the packet that carries it, and the channel that it comes from.
 #[derive(Clone, Copy, PartialEq, Eq, Debug)]
@@ -34,7 +35,7 @@ impl BlockName {
     pub fn new(packet: usize, channel: usize) -> Result<BlockName, Denial>
         ensures { MatchResult result (λ name. (is_block packet channel ≡ true) × (name.packet ≡ packet) × (name.channel ≡ channel)) (λ denial. (is_block packet channel ≡ false) × (denial ≡ no_such packet channel)) }
     {
-        if packet > LAST_PACKET || channel > LAST_CHANNEL {
+        if packet >= PACKETS || channel >= CHANNELS {
             return Err(Denial::new(Reason::Number, Layer::Field, packet, channel));
         }
         Ok(BlockName { packet, channel })

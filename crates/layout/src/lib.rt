@@ -7,7 +7,7 @@ mod memory;
 mod places;
 mod words;
 
-pub use block::{BASIC, BLOCKS, BlockName, PACKET};
+pub use block::{BASIC, BLOCKS, BlockName, PACKET, PACKETS};
 pub use field::{FILLER, TYPE_WORD, field_worded, first_found, mark_word};
 pub use memory::{clear, clear_marks, whole};
 pub use places::{

@@ -13,12 +13,12 @@ pub fn clear(memory: &mut [u8], from: usize)
     }
 }
 
-/// Sets every mark to 0 in memory of a told length, whose marks begin at a place. Memory of another length is left as it is.
-pub fn clear_marks(memory: &mut [u8], size: usize, from: usize)
-    ensures { memory.new ≡ cond (length memory.old == size) (cleared memory.old from) memory.old }
+/// Sets every mark to 0 in memory of that length, whose marks begin at that place. Memory of another length is left as it is.
+pub fn clear_marks<const LENGTH: usize, const MARKS: usize>(memory: &mut [u8])
+    ensures { memory.new ≡ cond (length memory.old == LENGTH) (cleared memory.old MARKS) memory.old }
 {
-    if memory.len() == size {
-        clear(memory, from);
+    if memory.len() == LENGTH {
+        clear(memory, MARKS);
     }
 }
 

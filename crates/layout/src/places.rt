@@ -1,8 +1,8 @@
 //! Where every coded byte stands in the lines of a field.
 ghost use Rattle.std.specs.Prelude.{◌≡◌, IfOk};
-ghost use Rattle.layout.specs.Places.{Crosses, placed, QuestionsUndo, seconded, Stands, StreamCovered};
+ghost use Rattle.layout.specs.Places.{byte_line, Crosses, placed, QuestionsUndo, second, seconded, Stands, StreamCovered};
 
-use crate::block::{BlockName, PACKET};
+use crate::block::{BlockName, PACKET, PACKETS};
 use denial::{Denial, Reason};
 
 /// A byte of a coded block.
@@ -24,7 +24,7 @@ pub const LINES: usize = 212;
 pub const LINE: usize = 1436;
 
 // The bytes of all packets.
-const STREAM: usize = 678 * PACKET;
+const STREAM: usize = PACKETS * PACKET;
 
 /// The line and word of a coded byte.
 pub fn place_of(packet: usize, channel: usize, byte: usize) -> Result<(usize, usize), Denial>
@@ -56,18 +56,25 @@ pub fn coded_byte_at(line: usize, word: usize) -> Option<CodedByte>
     })
 }
 
+impl BlockName {
+    /// The line of its first byte, and that of its last where this is another.
+    pub fn lines(self) -> (usize, Option<usize>)
+        ensures { result ≡ (byte_line self.packet self.channel 0, second self.packet self.channel) }
+    {
+        let start = self.start();
+        let first = start / LINE;
+        let last = (start + 2 * LAST_BYTE) / LINE;
+        (first, if last == first { None } else { Some(last) })
+    }
+}
+
 /// The second line on which a block stands; none where it ends on its first.
 pub fn second_line(packet: usize, channel: usize) -> Result<Option<usize>, Denial>
     ensures answer { result ≡ seconded packet channel }
     ensures lines { IfOk result (λ o. Crosses packet channel o) }
 {
-    let (first, _) = place_of(packet, channel, 0)?;
-    let (last, _) = place_of(packet, channel, LAST_BYTE)?;
-    if last == first {
-        Ok(None)
-    } else {
-        Ok(Some(last))
-    }
+    let (_, second) = BlockName::new(packet, channel)?.lines();
+    Ok(second)
 }
 
 /// Each place of the stream is that of exactly one coded byte.
