@@ -1,13 +1,13 @@
 //! Answering for blocks.
 ghost use Rattle.std.specs.Prelude.{◌≡◌, ◌≤◌, length, IfOk, MatchResult};
-ghost use Rattle.receiver.specs.Asks.{ask_refusal, Asked, by_missing, checked, Given, lines_at, missing_line, untaken};
+ghost use Rattle.receiver.specs.Asks.{ask_refusal, Asked, by_missing, checked, Given, missing_line, untaken};
 ghost use Rattle.receiver.specs.Memory.{gathered};
 
 use crate::memory::{MARKS, MEMORY};
 use codec::MendRecord;
 use codewords::{BLOCK, mend_block};
 use denial::{Denial, Layer, Reason};
-use layout::{BASIC, BlockName, place_of, second_line, whole};
+use layout::{BASIC, BlockName, whole};
 
 // Whether a line was taken.
 fn check_line(memory: &[u8; MEMORY], line: usize) -> Result<(), Denial>
@@ -20,20 +20,11 @@ fn check_line(memory: &[u8; MEMORY], line: usize) -> Result<(), Denial>
     Ok(())
 }
 
-// A block's first line, and its second where it has one.
-fn lines_of(name: BlockName) -> Result<(usize, Option<usize>), Denial>
-    ensures { result ≡ lines_at name.packet name.channel }
-{
-    let (first, _) = place_of(name.packet(), name.channel(), 0)?;
-    let second = second_line(name.packet(), name.channel())?;
-    Ok((first, second))
-}
-
 // Whether every line of a block was taken.
 fn check_lines(memory: &[u8; MEMORY], name: BlockName) -> Result<(), Denial>
     ensures { result ≡ checked (by_missing (missing_line memory.now name.packet name.channel)) }
 {
-    let (first, second) = lines_of(name)?;
+    let (first, second) = name.lines();
     check_line(memory, first)?;
     match second {
         Some(line) => check_line(memory, line),

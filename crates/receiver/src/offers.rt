@@ -51,6 +51,7 @@ pub(crate) fn offer_into<C: Carrier>(
     ensures answer { result ≡ offer_at memory.old (C.meaning carrier.now) line }
     ensures after { Offered memory.old ((C.meaning carrier.now).word line) line memory.new result }
 {
+    // Not by `whole`: no clause can say what a slice holds at last that is lent on in a Result.
     let Some(memory) = memory.as_mut_array::<MEMORY>() else {
         return Err(Denial::new(Reason::Memory, Layer::Field, memory.len(), 0));
     };

@@ -31,7 +31,7 @@ impl<'m> Gathering<'m> {
         ensures bytes { result.memory.now ≡ begun memory.old }
         ensures same { result.memory.ghost_name ≡ memory.entry.ghost_name }
     {
-        clear_marks(memory, MEMORY, MARKS);
+        clear_marks::<MEMORY, MARKS>(memory);
         Gathering { memory }
     }
 

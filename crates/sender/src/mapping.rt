@@ -12,12 +12,9 @@ use crate::searches::{first_absent, first_unloaded};
 use carriers::{Carrier, WritableCarrier};
 use codewords::{BLOCK, make_block};
 use denial::{Denial, Layer, Reason};
-use layout::{BASIC, BLOCKS, whole};
+use layout::{BASIC, PACKETS, whole};
 
-// How many packets a field has.
-const PACKETS: usize = BLOCKS / 2;
-
-// Codes the block with so many before it in the stream.
+// Codes the block with so many before it in the stream. A number and no `BlockName`: the two of a packet are its double and one more.
 fn coded_block(memory: &[u8; MEMORY], ordinal: usize) -> [u8; BLOCK]
     requires { ordinal < 1356 }
     ensures { (block : List ℕ) → BlockOf (take 219 (drop (219 * ordinal) memory.now)) block → block ≡ result }

@@ -30,6 +30,7 @@ pub(crate) fn load_into(
     ensures answer { result ≡ load_at memory.old packet channel block.now }
     ensures after { memory.new ≡ after_load memory.old packet channel block.now result }
 {
+    // Not by a call like `whole`: no clause can say what a slice holds at last that is lent on in a Result.
     let Some(memory) = memory.as_mut_array::<MEMORY>() else {
         return Err(Denial::new(Reason::Memory, Layer::Field, memory.len(), 0));
     };

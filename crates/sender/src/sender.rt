@@ -21,7 +21,7 @@ impl<'m> Sender<'m> {
         ensures bytes { result.memory.now ≡ begun memory.old }
         ensures same { result.memory.ghost_name ≡ memory.entry.ghost_name }
     {
-        clear_marks(memory, MEMORY, MARKS);
+        clear_marks::<MEMORY, MARKS>(memory);
         Sender { memory }
     }
 
