@@ -32,25 +32,6 @@ fn check_lines(memory: &[u8; MEMORY], name: BlockName) -> Result<(), Denial>
     }
 }
 
-// The block that is asked for, where the question may be answered from its bytes.
-fn check_ask(
-    memory: &[u8; MEMORY],
-    packet: usize,
-    channel: usize,
-    place: &[u8],
-) -> Result<BlockName, Denial>
-    ensures answer { MatchResult result (λ _. ask_refusal memory.now packet channel place.now ≡ None) (λ denial. ask_refusal memory.now packet channel place.now ≡ Some denial) }
-    ensures name { IfOk result (λ name. (name.packet ≡ packet) × (name.channel ≡ channel)) }
-    ensures place { IfOk result (λ _. length place.now ≡ 219) }
-{
-    let name = BlockName::new(packet, channel)?;
-    if place.len() != BASIC {
-        return Err(Denial::new(Reason::Length, Layer::Field, place.len(), 0));
-    }
-    check_lines(memory, name)?;
-    Ok(name)
-}
-
 // Reads the bytes of a block out of the memory.
 fn gather(memory: &[u8; MEMORY], name: BlockName) -> [u8; BLOCK]
     ensures { result ≡ gathered memory.now name.packet name.channel }
@@ -64,8 +45,11 @@ fn gather(memory: &[u8; MEMORY], name: BlockName) -> [u8; BLOCK]
 }
 
 // Mends a block that is all there, and writes its bytes.
-fn give(memory: &[u8; MEMORY], name: BlockName, place: &mut [u8]) -> Result<MendRecord, Denial>
-    requires { length place.old ≡ 219 }
+fn give(
+    memory: &[u8; MEMORY],
+    name: BlockName,
+    place: &mut [u8; BASIC],
+) -> Result<MendRecord, Denial>
     ensures { Given (gathered memory.now name.packet name.channel) name.packet name.channel place.old place.new result }
 {
     let mut block = gather(memory, name);
@@ -85,6 +69,10 @@ pub(crate) fn ask_of(
     ensures { Asked memory.now packet channel place.old place.new result }
 {
     let memory = whole::<MEMORY>(memory)?;
-    let name = check_ask(memory, packet, channel, place)?;
+    let name = BlockName::new(packet, channel)?;
+    let Some(place) = place.as_mut_array::<BASIC>() else {
+        return Err(Denial::new(Reason::Length, Layer::Field, place.len(), 0));
+    };
+    check_lines(memory, name)?;
     give(memory, name, place)
 }
