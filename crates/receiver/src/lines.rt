@@ -1,5 +1,5 @@
 //! The lines that a carrier holds, and whether their words are sound.
-ghost use Rattle.std.specs.Prelude.{◌≡◌, ◌<◌, true, false, not, nat_le, IfOk, MatchResult};
+ghost use Rattle.std.specs.Prelude.{◌≡◌, ◌<◌, ◌≤◌, true, false, not, nat_le, IfOk, MatchResult};
 ghost use Rattle.carriers.specs.Meaning.{has, lacking};
 ghost use Rattle.layout.specs.First.{first_below};
 ghost use Rattle.receiver.specs.Offers.{by_fault, fault, head_fault};
@@ -13,17 +13,19 @@ const WORDS: usize = 1440;
 
 const WIDEST: u16 = 1023;
 
-// A line that the carrier has.
+// A line of a field that the carrier has.
 #[derive(Drop)]
 pub(crate) struct HeldLine<'c, C: Carrier> {
     carrier: &'c C,
     pub(crate) line: usize,
     ghost held: { has (C.meaning carrier.now) line 0 ≡ true },
+    ghost low: { line ≤ 211 },
 }
 
 impl<'c, C: Carrier> HeldLine<'c, C> {
     // The line of a carrier; refused where it lacks the line.
     pub(crate) fn find(carrier: &'c C, line: usize) -> Result<HeldLine<'c, C>, Denial>
+        requires { line ≤ 211 }
         ensures answer { MatchResult result (λ _. has (C.meaning carrier.now) line 0 ≡ true) (λ denial. (has (C.meaning carrier.now) line 0 ≡ false) × (denial ≡ lacking line 0)) }
         ensures held { IfOk result (λ held. (held.carrier.now ≡ carrier.now) × (held.line ≡ line)) }
     {

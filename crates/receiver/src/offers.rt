@@ -16,7 +16,6 @@ fn check_offer<'c, C: Carrier>(
 ) -> Result<HeldLine<'c, C>, Denial>
     ensures answer { MatchResult result (λ _. offer_at memory.now (C.meaning carrier.now) line ≡ Ok tt) (λ denial. offer_at memory.now (C.meaning carrier.now) line ≡ Err denial) }
     ensures held { IfOk result (λ held. (held.carrier.now ≡ carrier.now) × (held.line ≡ line)) }
-    ensures low { IfOk result (λ _. line ≤ 211) }
 {
     if line >= LINES {
         return Err(Denial::new(Reason::Off, Layer::Field, line, 0));
@@ -31,7 +30,6 @@ fn check_offer<'c, C: Carrier>(
 
 // Writes a line's bytes and its mark.
 fn take_line<C: Carrier>(memory: &mut [u8; MEMORY], held: &HeldLine<C>)
-    requires { held.now.line ≤ 211 }
     ensures size { length memory.new ≡ length memory.old }
     ensures bytes { (i : ℕ) → slice_index memory.new i ≡ taken_byte memory.old ((C.meaning held.now.carrier.now).word held.now.line) held.now.line i }
 {
