@@ -8,6 +8,7 @@ use codec::MendRecord;
 use codewords::{BLOCK, mend_block};
 use denial::{Denial, Layer, Reason};
 use layout::{BASIC, BlockName, whole};
+use std::array;
 
 // Whether a line was taken.
 fn check_line(memory: &[u8; MEMORY], line: usize) -> Result<(), Denial>
@@ -37,11 +38,7 @@ fn gather(memory: &[u8; MEMORY], name: BlockName) -> [u8; BLOCK]
     ensures { result ≡ gathered memory.now name.packet name.channel }
 {
     let start = name.start();
-    let mut block = [0; BLOCK];
-    for (j, byte) in block.iter_mut().enumerate() {
-        *byte = memory[start + 2 * j];
-    }
-    block
+    array::from_fn(|j| memory[start + 2 * j])
 }
 
 // Mends a block that is all there, and writes its bytes.
