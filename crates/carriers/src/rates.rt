@@ -6,6 +6,7 @@ ghost use Rattle.carriers.specs.Rates.{started};
 const FIELD_STARTS: [[usize; 2]; 4] = [[50, 313], [59, 372], [59, 372], [50, 313]];
 
 /// The line on which a field begins; none where there is no such rate or field.
+// Rates and fields stay numbers, here and in a window: any number may be asked for, and is answered.
 pub fn field_start(rate: usize, field: usize) -> Option<usize>
     ensures { result ≡ started rate field }
 {

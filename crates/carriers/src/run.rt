@@ -15,6 +15,7 @@ pub(crate) const LINE: usize = 1440;
 const LAST_VALUE: u16 = 1023;
 
 /// Which word of the run is a word of a line, where the run has so many whole lines.
+// `first` and `lines` stay numbers, here and below: each carrier has the one and counts the other from its memory when it is asked.
 pub fn place_in(first: usize, lines: usize, line: usize, word: usize) -> Result<usize, Denial>
     ensures { result ≡ (if nat_le first line && (nat_lt line (end_of first lines) && nat_lt word 1440) then Ok (place_in first line word) else Err (lacking line word)) }
 {

@@ -57,10 +57,9 @@ fn write_coded<F: Field>(source: &[u8], checks: Cubic<F>, coded: &mut [u8])
     requires { length coded.old ≡ length source.now + 4 }
     ensures { coded.new ≡ source.now ++ map F.field.number (symbols checks) }
 {
-    let Cubic { k3, k2, k1, k0 } = checks;
     let (front, back) = coded.split_at_mut(source.len());
     front.copy_from_slice(source);
-    back.copy_from_slice(&[k3.number(), k2.number(), k1.number(), k0.number()]);
+    back.copy_from_slice(&checks.numbers());
 }
 
 // Codes the symbols that `source` has the numbers of into `coded`. `word` has a place for each data symbol. Refused, not a byte there

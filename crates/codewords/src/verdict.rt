@@ -9,6 +9,7 @@ use std::alloc::{AllocError, Global};
 use std::fmt;
 
 /// What became of a block.
+// Its first three cases are those of a mend record, spelt out, so that anyone can match on a verdict.
 #[derive(Clone, Copy, PartialEq, Eq, Debug)]
 pub enum Verdict {
     /// It was coded.

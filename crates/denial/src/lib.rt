@@ -78,6 +78,7 @@ impl Reason {
 
 impl Layer {
     /// The layer's name in lower case.
+    // No `Display` beside, as of a reason.
     pub fn word(self) -> &'static str
         ensures { result.now ≡ layer_word_of self }
     {

@@ -49,5 +49,6 @@ fn main(rt: HostRuntime) -> io::Result<()> {
         Ok(()) => Ok(()),
         Err(Fault::Denied(denial)) => println!(rt; "{denial}"),
         Err(Fault::Output(error)) => Err(error),
+        Err(Fault::Memory(error)) => Err(error.into()),
     }
 }

@@ -58,6 +58,7 @@ impl<'t, W: Write> Telling<'t, W> {
         let name = self.name;
         for line in FULL_LINES {
             writeln!(self.output, "{name} {line} words")?;
+            // By rows, since a proof is not told how far the steps of `step_by` go.
             for row in 0..WORDS / ROW {
                 tell_row(carrier, line, row * ROW, self.output)?;
             }

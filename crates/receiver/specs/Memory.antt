@@ -2,10 +2,8 @@
 -- taken. The bytes of all lines in turn are the field's stream.
 use Rattle.std.specs.Prelude.{ℕ, ◌+◌, Bool, cond, List, map, length, ◌==◌, slice_index}
 use Rattle.std.specs.List.{range_with_len}
-use Rattle.denial.specs.Denials.{denied}
 use Rattle.denial.specs.declared.Denial.{Denial}
-use Rattle.denial.specs.declared.Reason.TheVariants.{Memory}
-use Rattle.denial.specs.declared.Layer.TheVariants.{Field}
+use Rattle.layout.specs.Cleared as marked
 use Rattle.layout.specs.Cleared.{cleared}
 use Rattle.layout.specs.Places.{stream_place}
 
@@ -15,7 +13,7 @@ fits m = length m == 304644
 
 -- The refusal of memory of another length.
 abbrev pub unfit : List ℕ → Denial
-unfit m = denied Memory Field (length m) 0
+unfit = marked.unfit
 
 -- The memory after beginning: every mark is 0, and no other byte is touched.
 abbrev pub begun : List ℕ → List ℕ

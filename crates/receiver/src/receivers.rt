@@ -25,6 +25,7 @@ pub struct Closed<'m> {
     memory: &'m mut [u8],
 }
 
+// The clauses `same` say that it is still that memory, a promise of each call to whoever lent it.
 impl<'m> Gathering<'m> {
     /// Begins with no line taken. Memory of another length is left as it is.
     pub fn begin(memory: &'m mut [u8]) -> Gathering<'m>

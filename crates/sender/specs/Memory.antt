@@ -1,12 +1,13 @@
 -- A sender's memory: 1356 basic blocks of 219 bytes in the order of the stream, then a mark byte for each. A block's mark is 0 until the
 -- block is loaded.
-use Rattle.std.specs.Prelude.{◌≡◌, ℕ, ◌+◌, ◌-◌, ◌*◌, ◌<◌, ◌≤◌, Bool, true, false, cond, List, ◌++◌, length, take, drop, Ok, Err, Result, ◌==◌, ◌≢◌, slice_index, slice_set}
+use Rattle.std.specs.Prelude.{◌≡◌, ℕ, ◌+◌, ◌*◌, ◌<◌, ◌≤◌, Bool, true, false, cond, List, ◌++◌, length, take, drop, Ok, Err, Result, ◌==◌, ◌≢◌, slice_index, slice_set}
 use Rattle.denial.specs.Denials.{denied}
 use Rattle.denial.specs.declared.Denial.{Denial}
-use Rattle.denial.specs.declared.Reason.TheVariants.{Length, Loaded, Memory}
+use Rattle.denial.specs.declared.Reason.TheVariants.{Length, Loaded}
 use Rattle.denial.specs.declared.Layer.TheVariants.{Field}
+use Rattle.layout.specs.Cleared as marked
 use Rattle.layout.specs.Cleared.{cleared}
-use Rattle.layout.specs.Places.{is_block, no_such}
+use Rattle.layout.specs.Places.{is_block, no_such, ordinal_of}
 
 -- It has the bytes that a sender needs.
 abbrev pub fits : List ℕ → Bool
@@ -14,11 +15,11 @@ fits m = length m == 298320
 
 -- The refusal of memory of another length.
 abbrev pub unfit : List ℕ → Denial
-unfit m = denied Memory Field (length m) 0
+unfit = marked.unfit
 
 -- Which block in the order of the stream: a packet's block from channel 1 comes before the one from channel 0.
 abbrev pub index_of : ℕ → ℕ → ℕ
-index_of packet channel = 2 * packet + (1 - channel)
+index_of = ordinal_of
 
 -- Block i is not loaded yet: its mark is 0.
 abbrev pub is_unloaded : List ℕ → ℕ → Bool

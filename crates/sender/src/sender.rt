@@ -15,6 +15,7 @@ pub struct Sender<'m> {
     memory: &'m mut [u8],
 }
 
+// The clauses `same` say that it is still that memory, a promise of each call to whoever lent it.
 impl<'m> Sender<'m> {
     /// Begins with no block loaded. Memory of another length is left as it is.
     pub fn begin(memory: &'m mut [u8]) -> Sender<'m>

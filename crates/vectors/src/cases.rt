@@ -4,14 +4,12 @@ use crate::kind::Kind;
 use crate::text::{cut, read_bytes, read_digits};
 use crate::verdict::{afterwards, fits_change, read_verdict, verdict_of};
 use codec::{MendRecord, check_symbols};
-use codewords::{Verdict, make_label, mend_block, mend_label, verdict_line};
+use codewords::{BLOCK, Verdict, make_label, mend_block, mend_label, verdict_line};
 use denial::Denial;
-use galois::{Cubic, Field, Gf256};
+use galois::{Field, Gf256};
 use std::alloc::{AllocError, Global};
 
-// How many bytes a block has, and how many of them are data.
-const BLOCK: usize = 224;
-
+// How many bytes of a block are data.
 const BLOCK_DATA: usize = 220;
 
 // How many digits a label has, and how many of them are data.
@@ -25,8 +23,7 @@ fn check_bytes(data: &[u8; BLOCK_DATA]) -> Option<[u8; 4]> {
     for (symbol, byte) in symbols.iter_mut().zip(data) {
         *symbol = Gf256::from_number(*byte)?;
     }
-    let Cubic { k3, k2, k1, k0 } = check_symbols(&symbols)?;
-    Some([k3, k2, k1, k0].map(Gf256::number))
+    Some(check_symbols(&symbols)?.numbers())
 }
 
 // `DATA CHECKS`
@@ -92,8 +89,8 @@ fn digits_agree(fields: &str) -> Result<bool, Fault> {
     Ok(mends(&label, read_verdict(verdict)?, |digits| mend_label(digits)))
 }
 
-// The kind of the case that a line states, and whether the library agrees.
-pub fn case_agrees(alloc: Global, number: u64, line: &str) -> Result<(Kind, bool), Fault> {
+/// The kind of the case that a line states, where the library agrees.
+pub fn case_agrees(alloc: Global, number: u64, line: &str) -> Result<Kind, Fault> {
     let (word, fields) = cut(line)?;
     let kind = word.parse::<Kind>()?;
     let agrees = match kind {
@@ -102,5 +99,9 @@ pub fn case_agrees(alloc: Global, number: u64, line: &str) -> Result<(Kind, bool
         Kind::Block => block_agrees(alloc, number, fields)?,
         Kind::Digits => digits_agree(fields)?,
     };
-    Ok((kind, agrees))
+    if agrees {
+        Ok(kind)
+    } else {
+        Err(Fault::Disagrees(kind))
+    }
 }

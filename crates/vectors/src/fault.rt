@@ -1,14 +1,14 @@
-//! Why a line was not run.
+//! Why a line does not count.
+use crate::kind::Kind;
 use std::alloc::AllocError;
+use thiserror::Error;
 
-#[derive(Clone, Copy, PartialEq, Eq, Debug)]
+#[derive(Clone, Copy, Debug, Error)]
 pub enum Fault {
+    #[error("{0} disagrees")]
+    Disagrees(Kind),
+    #[error("malformed")]
     Malformed,
-    Memory(AllocError),
-}
-
-impl From<AllocError> for Fault {
-    fn from(error: AllocError) -> Fault {
-        Fault::Memory(error)
-    }
+    #[error(transparent)]
+    Memory(#[from(alloc)] AllocError),
 }

@@ -13,20 +13,19 @@ use kind::Kind;
 use std::io;
 use std::io::{BufRead, BufReader};
 
-// How many cases agree, of each kind in the order of `Kind::ALL`.
+// How many cases agree, of each kind in the order of `Kind::ALL`: an array, since four counters want no memory.
 type Tally = [u64; Kind::ALL.len()];
 
 // Runs the case of a line. One that disagrees is told, and so is a line that is no case.
 fn run_line(rt: &HostRuntime, tally: &mut Tally, number: u64, line: &str) -> io::Result<()> {
     match case_agrees(rt.alloc(), number, line) {
-        Ok((kind, true)) => {
+        Ok(kind) => {
             let counter = &mut tally[kind as usize];
             *counter = counter.saturating_add(1);
             Ok(())
         }
-        Ok((kind, false)) => println!(rt; "line {number}: {kind} disagrees"),
-        Err(Fault::Malformed) => println!(rt; "line {number}: malformed"),
         Err(Fault::Memory(error)) => Err(error.into()),
+        Err(fault) => println!(rt; "line {number}: {fault}"),
     }
 }
 

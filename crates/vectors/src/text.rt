@@ -6,6 +6,7 @@ pub fn cut(text: &str) -> Result<(&str, &str), Fault> {
     text.split_once(' ').ok_or(Fault::Malformed)
 }
 
+// By hand: the library's `to_digit` takes capitals too.
 fn digit(character: u8) -> Result<u8, Fault> {
     match character {
         b'0'..=b'9' => Ok(character - b'0'),

@@ -8,7 +8,7 @@ fn place(text: &str) -> Result<u8, Fault> {
     text.parse::<u8>().or(Err(Fault::Malformed))
 }
 
-// Reads `clean`, `lost`, `mended P` or `mended P Q`.
+// A function and no `FromStr`, since the type is another crate's. Reads `clean`, `lost`, `mended P` or `mended P Q`.
 pub fn read_verdict(text: &str) -> Result<Verdict, Fault> {
     match text {
         "clean" => Ok(Verdict::Clean),

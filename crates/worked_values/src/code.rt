@@ -2,15 +2,14 @@
 use codec::check_symbols;
 use codewords::{make_block, make_label, mend_block, mend_label};
 use denial::{Denial, Layer, Reason};
-use galois::{Cubic, Field, Gf256};
+use galois::{Field, Gf256};
 use std::test::Fail;
 
 // The check bytes of 220 bytes that are zero but for a 1 at `place`.
 fn checks_of_one(place: usize) -> Option<[u8; 4]> {
     let mut symbols = [Gf256::zero(); 220];
     *symbols.get_mut(place)? = Gf256::one();
-    let Cubic { k3, k2, k1, k0 } = check_symbols(&symbols)?;
-    Some([k3, k2, k1, k0].map(Gf256::number))
+    Some(check_symbols(&symbols)?.numbers())
 }
 
 fn lost() -> Denial {
