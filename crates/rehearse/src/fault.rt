@@ -30,6 +30,6 @@ pub enum Fault {
     /// Reading the script or writing the report failed.
     #[error(transparent)]
     Io(#[from] io::Error),
-    #[error(transparent)]
+    #[error("out of memory")]
     Memory(#[from(alloc)] AllocError),
 }
