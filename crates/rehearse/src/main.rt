@@ -43,11 +43,16 @@ fn add_steps(steps: &mut Vec<Step>, command: Command) -> Result<(), AllocError>
     }
 }
 
-// Reads the script to its end.
-fn read_script<R: BufRead + Drop>(alloc: Global, input: R) -> Result<Vec<Step>, Fault> {
+// Reads the script to its end. All lines into one vector, since `split` makes one for each.
+fn read_script<R: BufRead>(alloc: Global, input: &mut R) -> Result<Vec<Step>, Fault> {
     let mut steps = Vec::new(alloc);
-    for (number, line) in (1..).zip(input.split(alloc, b'\n')) {
-        let command = parse_line(line?.as_slice()).map_err(|wrong| Fault::Script(number, wrong))?;
+    let mut line = Vec::new(alloc);
+    for number in 1..u64::MAX {
+        line.clear();
+        if input.read_until(b'\n', &mut line)? == 0 {
+            break;
+        }
+        let command = parse_line(line.as_slice()).map_err(|wrong| Fault::Script(number, wrong))?;
         add_steps(&mut steps, command)?;
     }
     Ok(steps)
@@ -76,7 +81,7 @@ fn run(rt: &HostRuntime) -> Result<(), Fault> {
     let mut memory = vec![in rt.alloc(); 0u8; sender::MEMORY]?;
     let mut sender = Sender::begin(memory.as_mut_slice());
     load_all(&mut sender, blocks.as_slice())?;
-    let steps = read_script(rt.alloc(), BufReader::new(rt.alloc(), rt.stdin())?)?;
+    let steps = read_script(rt.alloc(), &mut BufReader::new(rt.alloc(), rt.stdin())?)?;
     let text = rehearse(rt.alloc(), field, &sender, steps.as_slice())?;
     rt.stdout().write_all(text.as_bytes())?;
     Ok(())
