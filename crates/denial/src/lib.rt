@@ -7,23 +7,23 @@ ghost use Rattle.denial.specs.Denials.{number_of, word_of, layer_word_of, denied
 use std::error::Error;
 use std::fmt;
 
-/// What was wrong, with its number.
+/// What was wrong, in the order of the numbers.
 #[derive(Clone, Copy, PartialEq, Eq, Debug)]
 pub enum Reason {
-    Memory = 1,
-    Off = 2,
-    Wide = 3,
-    Type = 4,
-    Empty = 5,
-    Mark = 6,
-    Held = 7,
-    Number = 8,
-    Length = 9,
-    Loaded = 10,
-    Unfilled = 11,
-    Short = 12,
-    Missing = 13,
-    Lost = 14,
+    Memory,
+    Off,
+    Wide,
+    Type,
+    Empty,
+    Mark,
+    Held,
+    Number,
+    Length,
+    Loaded,
+    Unfilled,
+    Short,
+    Missing,
+    Lost,
 }
 
 /// Which layer refused.
@@ -49,7 +49,8 @@ impl Reason {
     pub fn number(self) -> u8
         ensures { result ≡ number_of self }
     {
-        self as u8
+        // A cast counts from 0.
+        self as u8 + 1
     }
 
     /// The reason's name in lower case.
