@@ -2,7 +2,7 @@
 use codec::{check_symbols, mend};
 use codewords::{make_block, make_label, mend_block, mend_label};
 use denial::{Denial, Layer, Reason};
-use galois::{Field, Gf16};
+use galois::{Field, Gf16, Gf256};
 use std::test::Fail;
 
 fn length(bytes: usize) -> Denial {
@@ -84,5 +84,20 @@ fn lengths_that_the_code_has_not(rt: HostRuntime) {
 fn a_denial_in_words(rt: HostRuntime) -> Result<(), Fail> {
     let text = format!(in rt.alloc(); "{}", wide(3))?;
     assert_eq!(rt; text.as_str(), "3 wide code 0 3");
+    Ok(())
+}
+
+// A cast counts the reasons from 0, and their numbers begin with 1.
+#[test]
+fn reasons_by_cast_and_by_number(rt: HostRuntime) -> Result<(), Fail> {
+    assert_eq!(rt; (Reason::Memory as u8, Reason::Memory.number()), (0, 1));
+    assert_eq!(rt; (Reason::Lost as u8, Reason::Lost.number()), (13, 14));
+    Ok(())
+}
+
+#[test]
+fn an_element_prints_under_its_field(rt: HostRuntime) -> Result<(), Fail> {
+    let text = format!(in rt.alloc(); "{:?} {:?}", Gf256::one(), Gf16::one())?;
+    assert_eq!(rt; text.as_str(), "Gf256 { bits: 1 } Gf16 { bits: 1 }");
     Ok(())
 }
